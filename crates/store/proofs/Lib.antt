@@ -1,0 +1,13 @@
+pub mod Numbers
+pub mod Cells
+pub mod Writes
+pub mod Sinks
+pub mod Pile
+pub mod Weight
+pub mod Reach
+pub mod Steps
+pub mod Meets
+pub mod Fresh
+pub mod After
+pub mod Few
+pub mod Told

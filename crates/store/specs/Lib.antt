@@ -1,0 +1,12 @@
+pub mod Numbers
+pub mod Meaning
+pub mod Cells
+pub mod Heap
+pub mod Sound
+pub mod Reports
+pub mod Interface
+pub mod Setup
+pub mod View
+pub mod Answers
+pub mod Stores
+pub mod Rooted
