@@ -38,7 +38,7 @@ module _ {cells : List Cell} {idle : List ℕ} (s : Sound cells idle) where
 
   -- a count fits its 16 bits by far
   pub count-small : Few (meaning cells) → (d : ℕ) → at cells d .count ≤ 9192
-  count-small few d = omega (arith, s .counted d, few .out d, few .most, times-length d (few .all), inlinks-most d cells, s .most)
+  count-small few d = omega (arith, s .counted d, few .within d, few .most, times-length d (few .all), inlinks-most d cells, s .most)
 
   -- each cell is held or linked to, so all are reached: what links to a cell has a higher rank
   module _ (base : ℕ → ℕ) (used : (c : ℕ) → c < length cells → 0 < base c + inlinks c cells) where

@@ -20,7 +20,7 @@ use Rattle.store.specs.declared.fault.Refused.{Refused}
 use Rattle.store.specs.declared.fault.RefusedRebuild.{RefusedRebuild}
 use Rattle.store.specs.declared.fault.StoreFault.the-variants.{NoCell}
 use Rattle.store.specs.Numbers.{hit, times, In, opt, item}
-use Rattle.store.specs.Meaning.{Node, arity, Meaning, Reached, less, Moved, Unchanged, Made, Spare, most-links, Asked, making, rebuilding}
+use Rattle.store.specs.Meaning.{Node, arity, Meaning, Reached, less, Moved, Unchanged, Made, Full, Spare, most-links, Asked, making, rebuilding}
 use Rattle.store.specs.Cells.{links-of, holds, meaning}
 use Rattle.store.specs.Heap.{Heap, cell, made-in, rewritten, made-beside, rebuilt, deferred, settled, after}
 use Rattle.store.specs.Interface.{on, spent, Fits, asked-for, Handed, Make-told, Rebuild-told}
@@ -33,6 +33,7 @@ use Rattle.store.proofs.Sinks.{defers}
 use Rattle.store.proofs.Pile.{eagers}
 use Rattle.store.proofs.After.{Askable, after-okay, after-clean}
 use Rattle.store.proofs.Few.{after-few}
+use Rattle.store.proofs.Reach.{still-reached}
 use Rattle.store.proofs.Meets.{make-made, rewrite-made, beside-made, make-full, rebuild-full, fits-length}
 
 pub unchanged : {h k : Heap} → k ≡ h → Unchanged (meaning (h .cells)) (meaning (k .cells))
@@ -40,6 +41,10 @@ unchanged {h} {k} e = subst (λ (x : Heap). Unchanged (meaning (h .cells)) (mean
 
 pub fitting-length : (kind : ℕ) (l : Links) → Fits kind l → length (spent l) ≡ arity kind
 fitting-length kind l f = fits-length kind (on (l .first)) (on (l .second)) f
+
+-- where a rebuild is accepted, not every cell stays reached
+open-still : (m : Meaning) {n : Meaning} {node : Node} {old c : ℕ} → Made (less m old) n node c → Full m → Reached (less m old) old → ⊥
+open-still m {n} {node} {old} {c} w full still = w .fresh (still-reached m old still (full c (w .inside)))
 
 made-none : (lower : Heap → ℕ → Heap) (h : Heap) (x : Node) → made-in lower h x None ≡ h
 unfolding made-in
@@ -68,12 +73,14 @@ module _ (lower : Heap → ℕ → Heap) (law : Lawful lower) (h k : Heap) (o : 
             (subst (λ (y : Heap). Made (less (meaning (h .cells)) (old .cell)) (meaning (y .cells)) x (old .cell))
             (sym (e ∙ cond-true (eqb (cell h (old .cell) .count) 1) (rewritten lower h (old .cell) x) (made-beside lower h (old .cell) x (h .free)) (eq-eqb (cell h (old .cell) .count) 1 (p .0))))
             (rewrite-made lower law o x (fitting-length kind l f) (old .cell) out (p .0) s)),
+        open-still (meaning (h .cells)) (rewrite-made lower law o x (fitting-length kind l f) (old .cell) out (p .0) s),
         d,
       ))
       (λ p. (
         subst (λ (y : Heap). Made (less (meaning (h .cells)) (old .cell)) (meaning (y .cells)) x (c .cell))
             (sym (e ∙ cond-false (eqb (cell h (old .cell) .count) 1) (rewritten lower h (old .cell) x) (made-beside lower h (old .cell) x (h .free)) (ne-eqb (cell h (old .cell) .count) 1 (p .0)) ∙ ap (made-beside lower h (old .cell) x) (p .1)))
             (beside-made lower law o x (fitting-length kind l f) (old .cell) (c .cell) (p .1) out s),
+        open-still (meaning (h .cells)) (beside-made lower law o x (fitting-length kind l f) (old .cell) (c .cell) (p .1) out s),
         d,
       ))
       a

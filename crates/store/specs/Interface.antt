@@ -37,13 +37,14 @@ pub record Handed (l : Links) (cells : List ℕ) : Type 0 where
   pub first : on (l .first) ≡ item cells 0
   pub second : on (l .second) ≡ item cells 1
 
--- make: did and kept are what the store says of its own change, and of no change
+-- make is accepted with a cell that was not reached, and refused where every cell is; did and kept are what the store says of its own change, and of no change
 abbrev pub Make-told : Meaning → Meaning → ℕ → ℤ → Links → Type 0 → Type 0 → Result Hold Refused → Type 0
 Make-told m n kind value l did kept (Ok h) = Made m n (asked-for kind value l) (h .cell) × did
 Make-told m n kind value l did kept (Err e) = Full m × Unchanged m n × kept × (e ≡ record { links = l; fault = NoCell })
 
--- rebuild is make without the hold that is spent; the old cell must stay reached for a refusal
+-- rebuild is make without the hold that is spent; refused exactly where every cell is reached and the old one stays so without its hold
 abbrev pub Rebuild-told : Meaning → Meaning → Hold → ℕ → ℤ → Links → Type 0 → Type 0 → Result Hold RefusedRebuild → Type 0
-Rebuild-told m n old kind value l did kept (Ok h) = Made (less m (old .cell)) n (asked-for kind value l) (h .cell) × did
+Rebuild-told m n old kind value l did kept (Ok h) =
+    Made (less m (old .cell)) n (asked-for kind value l) (h .cell) × (Full m → Reached (less m (old .cell)) (old .cell) → ⊥) × did
 Rebuild-told m n old kind value l did kept (Err e) =
     (Full m × Reached (less m (old .cell)) (old .cell)) × Unchanged m n × kept × (e ≡ record { old = old; links = l; fault = NoCell })

@@ -62,11 +62,11 @@ Full m = (c : ℕ) → c < m .size → Reached m c
 abbrev pub Out : Meaning → List ℕ → Type 0
 Out m xs = (c : ℕ) → m .holds c ≡ times c xs
 
--- at most 1,000 holds are out in all
+-- at most 1,000 holds are out in all: a list of at most 1,000 places has them
 pub record Few (m : Meaning) : Type 0 where
   pub all : List ℕ
   pub most : length all ≤ 1000
-  pub out : Out m all
+  pub within : (c : ℕ) → m .holds c ≤ times c all
 
 -- there is a hold out for each link of a new cell
 abbrev pub Spare : Meaning → List ℕ → Type 0
