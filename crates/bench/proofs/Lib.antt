@@ -1,1 +1,5 @@
 pub mod Pass
+pub mod Slots
+pub mod Agree
+pub mod Stays
+pub mod Moves

@@ -1,10 +1,73 @@
 -- The theorems, as statements.
+use mathlib.Core.Path.{_≡_}
+use mathlib.Core.Bool.{true}
 use mathlib.Core.Logic.{_↔_}
-use Prim.Native.Nat.{ℕ, _≤_}
+use mathlib.Core.List.{List, [], _∷_}
+use Prim.Native.Nat.{ℕ, _<_, _≤_}
+use lib.IntN.{ℤ}
+use lib.ListN.{length, set, replicate}
+use Rattle.std.specs.declared.option.Option.{Option}
+use Rattle.std.specs.declared.option.Option.the-variants.{Some, None}
 use Rattle.store.specs.Numbers.{times, In}
-use Rattle.bench.specs.Machine.{Machine, Sound, alive}
-use Rattle.bench.specs.Picture.{Found, machine-picture}
+use Rattle.store.specs.Meaning.{Node, Meaning, Reached, less, Moved, Unchanged, Made, Full}
+use Rattle.store.specs.Rooted.{root-at}
+use Rattle.bench.specs.Machine.{Machine, Sound, start, spend, spent, taken, filled, copied, released, parted, made, rebuilt, alive, live, shared}
+use Rattle.bench.specs.Picture.{Picture, Found, Agree, Looks-alike, bench-picture, machine-picture}
+use Rattle.bench.specs.Standing.{Stands, Room}
 
 -- the pass lists what is found, each once
 abbrev pub Pass-right : Type 0
 Pass-right = (t : Machine) → Sound t → (i : ℕ) → (In i (alive t) ↔ Found (machine-picture t) i) × (times i (alive t) ≤ 1)
+
+-- with no hold out, empty roots stand for the machine at its start
+abbrev pub Start-stands : Type 0
+Start-stands = (m : Meaning) → ((c : ℕ) → m .holds c ≡ 0) → Stands start (replicate 16 None) m
+
+-- a call that changes nothing, as one that is refused
+abbrev pub Rest-stands : Type 0
+Rest-stands = (t : Machine) (slots : List (Option ℕ)) (m n : Meaning) → Stands t slots m → Unchanged m n → Stands t slots n
+
+abbrev pub Release-stands : Type 0
+Release-stands =
+    (t : Machine) (slots : List (Option ℕ)) (m n : Meaning) (r c : ℕ) → Stands t slots m →
+    root-at slots r ≡ Some c → Moved m n (c ∷ []) [] → Stands (released t r) (spend slots r) n
+
+abbrev pub Copy-stands : Type 0
+Copy-stands =
+    (t : Machine) (slots : List (Option ℕ)) (m n : Meaning) (s d c : ℕ) → Stands t slots m →
+    root-at slots s ≡ Some c → d < length slots → root-at slots d ≡ None → Moved m n [] (c ∷ []) → Stands (copied t s d) (set slots d (Some c)) n
+
+abbrev pub Part-stands : Type 0
+Part-stands =
+    (t : Machine) (slots : List (Option ℕ)) (m n : Meaning) (r c : ℕ) (rs : List ℕ) → Stands t slots m →
+    root-at slots r ≡ Some c → Room (spend slots r) rs (m .content c .links) → Moved m n (c ∷ []) (m .content c .links) →
+    Stands (parted t r rs) (filled (spend slots r) rs (m .content c .links)) n
+
+abbrev pub Make-stands : Type 0
+Make-stands =
+    (t : Machine) (slots : List (Option ℕ)) (m n : Meaning) (d kind : ℕ) (value : ℤ) (rs : List ℕ) (c : ℕ) → Stands t slots m →
+    d < length slots → root-at (spent slots rs) d ≡ None → Made m n (record { kind = kind; value = value; links = taken slots rs }) c →
+    Stands (made t d kind value rs) (set (spent slots rs) d (Some c)) n
+
+abbrev pub Rebuild-stands : Type 0
+Rebuild-stands =
+    (t : Machine) (slots : List (Option ℕ)) (m n : Meaning) (r kind : ℕ) (value : ℤ) (rs : List ℕ) (old c : ℕ) → Stands t slots m →
+    root-at slots r ≡ Some old → Made (less m old) n (record { kind = kind; value = value; links = taken (spend slots r) rs }) c →
+    Stands (rebuilt t r kind value rs) (set (spent (spend slots r) rs) r (Some c)) n
+
+-- a make may be refused exactly when as many nodes are reached as there are cells
+abbrev pub Make-exact : Type 0
+Make-exact = (t : Machine) (slots : List (Option ℕ)) (m : Meaning) → Stands t slots m → Full m ↔ (live t ≡ m .size)
+
+-- and a rebuild when the old node is reached from the other roots besides
+abbrev pub Rebuild-exact : Type 0
+Rebuild-exact =
+    (t : Machine) (slots : List (Option ℕ)) (m : Meaning) (r old : ℕ) → Stands t slots m → root-at slots r ≡ Some old →
+    (Full m × Reached (less m old) old) ↔ ((live t ≡ m .size) × (shared t r ≡ true))
+
+-- agreement is enough for a person to see the same
+abbrev pub Pictures-alike : Type 0
+Pictures-alike = (p q : Picture) (f : ℕ → ℕ) → Agree p q f → Looks-alike p q
+
+abbrev pub Bench-alike : Type 0
+Bench-alike = (t : Machine) (slots : List (Option ℕ)) (m : Meaning) → Stands t slots m → Looks-alike (bench-picture slots m) (machine-picture t)

@@ -7,3 +7,35 @@ pub fn pass_right() -> u8
 {
     0
 }
+
+// A store with no hold out and empty roots stand for the machine at its start.
+pub fn start_stands() -> u8
+    ensures { λ _. ⌜ law.Start-stands ⌝ }
+{
+    0
+}
+
+// Each call keeps it so: first one that changes nothing.
+pub fn rest_stands() -> u8
+    ensures { λ _. ⌜ law.Rest-stands ⌝ }
+{
+    0
+}
+
+pub fn release_stands() -> u8
+    ensures { λ _. ⌜ law.Release-stands ⌝ }
+{
+    0
+}
+
+pub fn copy_stands() -> u8
+    ensures { λ _. ⌜ law.Copy-stands ⌝ }
+{
+    0
+}
+
+pub fn part_stands() -> u8
+    ensures { λ _. ⌜ law.Part-stands ⌝ }
+{
+    0
+}

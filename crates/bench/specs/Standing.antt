@@ -1,0 +1,28 @@
+-- A bench stands for the machine: its sixteen slots over what its store means.
+use Prim.Native.Nat.{ℕ, _<_}
+use mathlib.Core.Path.{_≡_}
+use mathlib.Core.List.{List, [], _∷_}
+use lib.ListN.{length, set}
+use Rattle.std.specs.declared.option.Option.{Option}
+use Rattle.std.specs.declared.option.Option.the-variants.{Some, None}
+use Rattle.store.specs.Meaning.{Meaning, Reached, Out}
+use Rattle.store.specs.Rooted.{root-at, named}
+use Rattle.bench.specs.Machine.{Machine, Sound}
+use Rattle.bench.specs.Picture.{Agree, bench-picture, machine-picture}
+
+-- own c is the number of the node that stands in cell c
+pub record Standing (t : Machine) (slots : List (Option ℕ)) (m : Meaning) (own : ℕ → ℕ) : Type 0 where
+  pub sound : Sound t
+  pub agree : Agree (bench-picture slots m) (machine-picture t) own
+  pub out : Out m (named slots)
+  pub inside : (c : ℕ) → Reached m c → c < m .size
+
+abbrev pub Stands : Machine → List (Option ℕ) → Meaning → Type 0
+Stands t slots m = (own : ℕ → ℕ) × Standing t slots m own
+
+-- there are as many roots as numbers, and each is there and empty when its turn to be filled comes
+abbrev pub Room : List (Option ℕ) → List ℕ → List ℕ → Type 0
+Room slots [] [] = Unit {0}
+Room slots [] (n ∷ ns) = ⊥
+Room slots (r ∷ rs) [] = ⊥
+Room slots (r ∷ rs) (n ∷ ns) = (r < length slots) × (root-at slots r ≡ None) × Room (set slots r (Some n)) rs ns
