@@ -39,3 +39,28 @@ pub fn part_stands() -> u8
 {
     0
 }
+
+pub fn make_stands() -> u8
+    ensures { λ _. ⌜ law.Make-stands ⌝ }
+{
+    0
+}
+
+pub fn rebuild_stands() -> u8
+    ensures { λ _. ⌜ law.Rebuild-stands ⌝ }
+{
+    0
+}
+
+// Pictures that agree look alike.
+pub fn pictures_alike() -> u8
+    ensures { λ _. ⌜ law.Pictures-alike ⌝ }
+{
+    0
+}
+
+pub fn bench_alike() -> u8
+    ensures { λ _. ⌜ law.Bench-alike ⌝ }
+{
+    0
+}
