@@ -6,3 +6,5 @@ pub mod Moves
 pub mod Make
 pub mod Rebuild
 pub mod Alike
+pub mod Count
+pub mod Exact

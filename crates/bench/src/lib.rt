@@ -64,3 +64,16 @@ pub fn bench_alike() -> u8
 {
     0
 }
+
+// A refusal for want of a cell is exact.
+pub fn make_exact() -> u8
+    ensures { λ _. ⌜ law.Make-exact ⌝ }
+{
+    0
+}
+
+pub fn rebuild_exact() -> u8
+    ensures { λ _. ⌜ law.Rebuild-exact ⌝ }
+{
+    0
+}
