@@ -1,11 +1,11 @@
 -- What is found in one of two pictures that agree is found in the other.
-use mathlib.Core.Path.{_≡_, refl, sym, ap, subst, _∙_}
-use mathlib.Core.List.{List, map}
+use mathlib.Core.Path.{_≡_, sym, ap, subst, _∙_}
+use mathlib.Core.List.{map}
 use Prim.Native.Nat.{ℕ}
 use Rattle.store.specs.Numbers.{In}
 use Rattle.store.specs.Meaning.{Node}
 use Rattle.store.specs.Rooted.{named}
-use Rattle.bench.specs.Picture.{Picture, Found, from-root, from-link, Agree, node-by, root-by}
+use Rattle.bench.specs.Picture.{Picture, Found, from-root, from-link, Agree}
 use Rattle.bench.proofs.Slots.{in-by, by-in, named-by}
 
 module _ {p q : Picture} {f : ℕ → ℕ} (a : Agree p q f) where

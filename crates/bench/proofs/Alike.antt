@@ -1,17 +1,17 @@
 -- Pictures that agree look alike: each find of one is the other's find under its number.
-use mathlib.Core.Path.{_≡_, refl, sym, ap, subst, _∙_}
+use mathlib.Core.Path.{_≡_, refl, sym, ap, _∙_}
 use mathlib.Core.List.{List, [], _∷_, map}
-use Prim.Native.Nat.{ℕ, zero, suc, _+_, _<_}
+use Prim.Native.Nat.{ℕ, zero, suc}
 use native.Mathlib.Omega.{arith}
 use lib.IntN.{ℤ}
 use Rattle.std.specs.declared.option.Option.{Option}
 use Rattle.std.specs.declared.option.Option.the-variants.{Some, None}
-use Rattle.store.specs.Numbers.{hit, times, In, item}
+use Rattle.store.specs.Numbers.{hit, In, item}
 use Rattle.store.specs.Meaning.{Node}
 use Rattle.store.specs.Rooted.{root-at}
 use Rattle.store.proofs.Numbers.{hit-self}
 use Rattle.store.proofs.Pile.{none-some}
-use Rattle.bench.specs.Picture.{Picture, Found, from-root, from-link, Agree, Looks-alike, root-by, hop, walk, find, shown, bench-picture, machine-picture}
+use Rattle.bench.specs.Picture.{Picture, Found, from-root, from-link, Agree, Looks-alike, root-by, hop, walk, find, shown}
 use Rattle.bench.specs.Laws.{Pictures-alike, Bench-alike}
 use Rattle.bench.proofs.Slots.{root-named, root-at-by}
 use Rattle.bench.proofs.Agree.{links-agree}

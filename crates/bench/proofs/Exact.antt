@@ -1,21 +1,21 @@
 -- As many nodes are reached as cells: so all cells are reached exactly when the count says so.
-use mathlib.Core.Path.{_≡_, refl, sym, ap, subst, _∙_}
+use mathlib.Core.Path.{_≡_, sym, ap, subst, _∙_}
 use mathlib.Core.Bool.{true}
 use mathlib.Core.Logic.{_↔_}
-use mathlib.Core.List.{List, [], _∷_, map}
+use mathlib.Core.List.{List, map}
 use Prim.Native.Nat.{ℕ, _<_, _≤_}
 use native.Mathlib.Omega.{arith}
 use lib.ListN.{length, length-map}
 use Rattle.std.proofs.shelf.Tests.{ltb-true, lt-ltb}
 use Rattle.std.specs.declared.option.Option.{Option}
-use Rattle.std.specs.declared.option.Option.the-variants.{Some, None}
+use Rattle.std.specs.declared.option.Option.the-variants.{Some}
 use Rattle.store.specs.Numbers.{times, In}
-use Rattle.store.specs.Meaning.{Meaning, Reached, by-hold, by-link, less, Full}
+use Rattle.store.specs.Meaning.{Meaning, Reached, by-hold, less, Full}
 use Rattle.store.specs.Rooted.{root-at}
-use Rattle.store.proofs.Reach.{less-reached}
-use Rattle.bench.specs.Machine.{Machine, spend, released, alive, live, among, shared}
+use Rattle.store.proofs.Reach.{less-reached, still-reached}
+use Rattle.bench.specs.Machine.{Machine, released, alive, live, shared}
 use Rattle.bench.specs.Standing.{Standing}
-use Rattle.bench.specs.Laws.{Make-exact, Rebuild-exact}
+use Rattle.bench.specs.Laws.{Make-exact, Rebuild-exact, Make-open, Rebuild-open}
 use Rattle.bench.proofs.Pass.{pass-right}
 use Rattle.bench.proofs.Slots.{by-in}
 use Rattle.bench.proofs.Agree.{forth, back}
@@ -80,3 +80,9 @@ rebuild-exact t slots m r old (own, s) e =
     let f = full-live s in
     let k = still-shared s r old e in
     (λ p. (f .0 (p .0), k .0 (p .1)), λ p. (f .1 (p .0), k .1 (p .1)))
+
+pub make-open : Make-open
+make-open t slots m n node c (own, s) v e = v .fresh (full-live s .1 e c (v .inside))
+
+pub rebuild-open : Rebuild-open
+rebuild-open t slots m n node r old c (own, s) e v q b = v .fresh (still-reached m old (still-shared s r old e .1 b) (full-live s .1 q c (v .inside)))

@@ -8,3 +8,4 @@ pub mod Rebuild
 pub mod Alike
 pub mod Count
 pub mod Exact
+pub mod Asked

@@ -3,21 +3,21 @@ use mathlib.Core.Path.{_≡_, refl, sym, ap, subst, _∙_}
 use mathlib.Core.Bool.{cond}
 use mathlib.Core.Logic.{_⊎_, inl, inr, ⊎-elim}
 use mathlib.Core.List.{List, [], _∷_, _++_, map}
-use Prim.Native.Nat.{ℕ, _+_, _<_, _≤_}
+use Prim.Native.Nat.{ℕ, _<_, _≤_}
 use native.Mathlib.Omega.{arith}
 use lib.Dec.{eqb}
 use lib.IntN.{ℤ}
-use lib.ListN.{length, set, length-append}
+use lib.ListN.{length, set}
 use Rattle.std.proofs.shelf.Lists.{map-set, getD-append-left, getD-at, getD-past, length-push}
-use Rattle.std.proofs.shelf.Tests.{cases-lt, cases-eq, cases-order, eq-eqb, ne-eqb}
+use Rattle.std.proofs.shelf.Tests.{cases-order, eq-eqb, ne-eqb}
 use Rattle.std.specs.declared.option.Option.{Option}
 use Rattle.std.specs.declared.option.Option.the-variants.{Some, None}
-use Rattle.store.specs.Numbers.{hit, times, In}
-use Rattle.store.specs.Meaning.{Node, Meaning, Reached, by-hold, by-link, Moved, Made, Out}
+use Rattle.store.specs.Numbers.{times, In}
+use Rattle.store.specs.Meaning.{Node, Meaning, Reached, by-hold, by-link, Made, Out}
 use Rattle.store.specs.Rooted.{root-at, named}
 use Rattle.store.proofs.Numbers.{hit-cases, hit-self}
-use Rattle.bench.specs.Machine.{Machine, Sound, blank, node-at, spent, taken, made}
-use Rattle.bench.specs.Picture.{Picture, Found, bench-picture, root-by, node-by}
+use Rattle.bench.specs.Machine.{Machine, blank, node-at, spent, taken, made}
+use Rattle.bench.specs.Picture.{root-by, node-by}
 use Rattle.bench.specs.Standing.{Standing}
 use Rattle.bench.specs.Laws.{Make-stands}
 use Rattle.bench.proofs.Slots.{named-spent, named-fill, length-spent, by-in, named-by, spent-by, taken-by}

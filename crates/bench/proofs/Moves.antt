@@ -2,18 +2,18 @@
 use mathlib.Core.Path.{_≡_, refl, sym, ap, _∙_}
 use mathlib.Core.Logic.{⊎-elim}
 use mathlib.Core.List.{List, [], _∷_, map}
-use Prim.Native.Nat.{ℕ, zero, suc, _+_, _<_, _≤_}
+use Prim.Native.Nat.{ℕ}
 use native.Mathlib.Omega.{arith}
-use lib.ListN.{length, set, replicate}
+use lib.ListN.{set}
 use Rattle.std.proofs.shelf.Lists.{map-set}
 use Rattle.std.specs.declared.option.Option.{Option}
 use Rattle.std.specs.declared.option.Option.the-variants.{Some, None}
-use Rattle.store.specs.Numbers.{hit, times, In, opt}
+use Rattle.store.specs.Numbers.{times, opt}
 use Rattle.store.specs.Meaning.{Meaning, Reached, by-hold, by-link, Moved}
-use Rattle.store.specs.Rooted.{root-at, named}
+use Rattle.store.specs.Rooted.{root-at}
 use Rattle.store.proofs.Numbers.{hit-cases}
-use Rattle.bench.specs.Machine.{Machine, node-at, spend, filled, links-at, released}
-use Rattle.bench.specs.Picture.{Found, from-root, from-link, bench-picture, root-by}
+use Rattle.bench.specs.Machine.{Machine, spend, filled, released}
+use Rattle.bench.specs.Picture.{root-by}
 use Rattle.bench.specs.Standing.{Standing}
 use Rattle.bench.specs.Laws.{Start-stands, Rest-stands, Release-stands, Copy-stands, Part-stands}
 use Rattle.bench.proofs.Slots.{named-spend, named-fill, named-filled, root-at-by, filled-by}
@@ -40,9 +40,12 @@ rest-stands t slots m n (own, s) v =
     (own, keeps s (t .roots) slots n (s .agree .roots) (v .sized) (λ d. omega (arith, v .held d, s .out d)) (stays v (λ d i. absurd (omega arith))))
 
 module _ {t : Machine} {slots : List (Option ℕ)} {m : Meaning} {own : ℕ → ℕ} (s : Standing t slots m own) where
-  -- the machine's root, and the machine's roots without it
+  -- the machine's roots: each, one in use, and all without one
+  pub root-is : (r : ℕ) → root-at (t .roots) r ≡ root-by own (root-at slots r)
+  root-is r = ap (λ l. root-at l r) (s .agree .roots) ∙ root-at-by own slots r
+
   pub root-own : (r c : ℕ) → root-at slots r ≡ Some c → root-at (t .roots) r ≡ Some (own c)
-  root-own r c e = ap (λ l. root-at l r) (s .agree .roots) ∙ root-at-by own slots r ∙ ap (root-by own) e
+  root-own r c e = root-is r ∙ ap (root-by own) e
 
   pub spend-own : (r : ℕ) → spend (t .roots) r ≡ map (root-by own) (spend slots r)
   spend-own r = ap (λ l. spend l r) (s .agree .roots) ∙ sym (map-set (root-by own) slots r None)

@@ -1,18 +1,17 @@
 -- The pass lists what is found, each once.
 use mathlib.Core.Path.{_≡_, refl, sym, ap, subst}
-use mathlib.Core.Bool.{cond}
 use mathlib.Core.Logic.{_⊎_, inl, inr, ⊎-elim}
-use mathlib.Core.List.{List, [], _∷_, _++_}
-use Prim.Native.Nat.{ℕ, zero, suc, _+_, _<_, _≤_}
+use mathlib.Core.List.{List, _∷_, _++_}
+use Prim.Native.Nat.{ℕ, zero, suc, _<_, _≤_}
 use native.Mathlib.Omega.{arith}
 use lib.Dec.{ltb}
 use lib.ListN.{length}
 use Rattle.std.proofs.shelf.Tests.{cases-lt, cases-eq, ltb-true, ltb-false, cond-both}
-use Rattle.store.specs.Numbers.{hit, times, In}
+use Rattle.store.specs.Numbers.{times, In}
 use Rattle.store.specs.Meaning.{Node}
 use Rattle.store.specs.Rooted.{named}
-use Rattle.store.proofs.Numbers.{hit-cases, hit-self, times-append}
-use Rattle.bench.specs.Machine.{Machine, Sound, node-at, swept, alive}
+use Rattle.store.proofs.Numbers.{hit-cases, times-append}
+use Rattle.bench.specs.Machine.{Machine, Sound, node-at, swept}
 use Rattle.bench.specs.Picture.{Found, from-root, from-link, machine-picture}
 use Rattle.bench.specs.Laws.{Pass-right}
 

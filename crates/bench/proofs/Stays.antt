@@ -1,18 +1,18 @@
 -- What is reached in a store is what is found from the bench's slots; where holds only move, what is reached was reached.
-use mathlib.Core.Path.{_≡_, refl, sym, ap, subst, _∙_}
+use mathlib.Core.Path.{_≡_, sym, ap, subst, _∙_}
 use mathlib.Core.Logic.{⊎-elim}
-use mathlib.Core.List.{List, [], _∷_, map}
-use Prim.Native.Nat.{ℕ, _+_, _<_, _≤_}
+use mathlib.Core.List.{List, map}
+use Prim.Native.Nat.{ℕ, _<_}
 use native.Mathlib.Omega.{arith}
 use lib.ListN.{length}
 use Rattle.std.proofs.shelf.Tests.{cases-lt}
 use Rattle.std.specs.declared.option.Option.{Option}
-use Rattle.std.specs.declared.option.Option.the-variants.{Some, None}
-use Rattle.store.specs.Numbers.{times, In}
+use Rattle.std.specs.declared.option.Option.the-variants.{Some}
+use Rattle.store.specs.Numbers.{In}
 use Rattle.store.specs.Meaning.{Node, Meaning, Reached, by-hold, by-link, Moved, Out}
 use Rattle.store.specs.Rooted.{root-at, named}
 use Rattle.bench.specs.Machine.{Machine, rerooted}
-use Rattle.bench.specs.Picture.{Picture, Found, from-root, from-link, Agree, bench-picture, machine-picture, node-by, root-by}
+use Rattle.bench.specs.Picture.{Found, from-root, from-link, bench-picture, node-by, root-by}
 use Rattle.bench.specs.Standing.{Standing}
 use Rattle.bench.proofs.Pass.{found-there}
 use Rattle.bench.proofs.Slots.{by-in, named-by, root-named}

@@ -1,4 +1,5 @@
 -- The node machine: what a person is told that the calls do. Its steps here come without their tests.
+use mathlib.Core.Path.{_≡_}
 use mathlib.Core.Bool.{Bool, false, cond}
 use mathlib.Core.List.{List, [], _∷_, _++_}
 use Prim.Native.Nat.{ℕ, zero, suc, _<_}
@@ -8,7 +9,7 @@ use lib.ListN.{length, getD, set, replicate}
 use Rattle.std.specs.declared.option.Option.{Option}
 use Rattle.std.specs.declared.option.Option.the-variants.{Some, None}
 use Rattle.store.specs.Numbers.{times, In, opt}
-use Rattle.store.specs.Meaning.{Node}
+use Rattle.store.specs.Meaning.{Node, arity}
 use Rattle.store.specs.Rooted.{root-at, named}
 
 -- the nodes in the order made, a node's number being its place; each root is empty or names a node
@@ -20,6 +21,7 @@ pub record Machine : Type 0 where
 abbrev pub blank : Node
 blank = record { kind = 0; value = pos 0; links = [] }
 
+-- the node of a number
 abbrev pub node-at : List Node → ℕ → Node
 node-at nodes i = getD nodes i blank
 
@@ -60,6 +62,7 @@ rerooted t roots = record { nodes = t .nodes; roots = roots }
 abbrev pub copied : Machine → ℕ → ℕ → Machine
 copied t s d = rerooted t (set (t .roots) d (root-at (t .roots) s))
 
+-- root r is emptied, and no node goes
 abbrev pub released : Machine → ℕ → Machine
 released t r = rerooted t (spend (t .roots) r)
 
@@ -91,6 +94,7 @@ alive t = swept (t .nodes) (length (t .nodes)) (named (t .roots))
 abbrev pub live : Machine → ℕ
 live t = length (alive t)
 
+-- whether what a root names stands in a list
 abbrev pub among : Option ℕ → List ℕ → Bool
 among None ns = false
 among (Some i) ns = ltb 0 (times i ns)
@@ -103,3 +107,7 @@ shared t r = among (root-at (t .roots) r) (alive (released t r))
 pub record Sound (t : Machine) : Type 0 where
   pub earlier : (j i : ℕ) → In i (node-at (t .nodes) j .links) → i < j
   pub there : (i : ℕ) → In i (named (t .roots)) → i < length (t .nodes)
+
+-- each node has as many links as its kind
+abbrev pub Shaped : Machine → Type 0
+Shaped t = (i : ℕ) → length (node-at (t .nodes) i .links) ≡ arity (node-at (t .nodes) i .kind)

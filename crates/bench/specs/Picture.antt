@@ -16,6 +16,7 @@ pub record Picture : Type 0 where
   pub roots : List (Option ℕ)
   pub content : ℕ → Node
 
+-- the machine's roots and nodes
 abbrev pub machine-picture : Machine → Picture
 machine-picture t = record { roots = t .roots; content = node-at (t .nodes) }
 
@@ -28,11 +29,12 @@ pub data Found (p : Picture) : ℕ → Type 0 where
   from-root : {c : ℕ} → In c (named (p .roots)) → Found p c
   from-link : {j c : ℕ} → Found p j → In c (p .content j .links) → Found p c
 
--- a root, and a node, under other numbers
+-- a root under other numbers
 abbrev pub root-by : (ℕ → ℕ) → Option ℕ → Option ℕ
 root-by f None = None
 root-by f (Some c) = Some (f c)
 
+-- a node with its links under other numbers
 abbrev pub node-by : (ℕ → ℕ) → Node → Node
 node-by f x = record { kind = x .kind; value = x .value; links = map f (x .links) }
 
@@ -47,6 +49,7 @@ abbrev pub hop : Picture → Option ℕ → ℕ → Option ℕ
 hop p None k = None
 hop p (Some c) k = item (p .content c .links) k
 
+-- and one link after another
 abbrev pub walk : Picture → Option ℕ → List ℕ → Option ℕ
 walk p o [] = o
 walk p o (k ∷ ks) = walk p (hop p o k) ks

@@ -77,3 +77,35 @@ pub fn rebuild_exact() -> u8
 {
     0
 }
+
+pub fn make_open() -> u8
+    ensures { λ _. ⌜ law.Make-open ⌝ }
+{
+    0
+}
+
+pub fn rebuild_open() -> u8
+    ensures { λ _. ⌜ law.Rebuild-open ⌝ }
+{
+    0
+}
+
+// What a bench may ask of its store.
+pub fn may_ask() -> u8
+    ensures { λ _. ⌜ law.May-ask ⌝ }
+{
+    0
+}
+
+// Each node has as many links as its kind, and so has each reached cell.
+pub fn made_shaped() -> u8
+    ensures { λ _. ⌜ law.Made-shaped ⌝ }
+{
+    0
+}
+
+pub fn cells_shaped() -> u8
+    ensures { λ _. ⌜ law.Cells-shaped ⌝ }
+{
+    0
+}
