@@ -17,7 +17,7 @@ use Rattle.bench.specs.Machine.{Machine, blank, spend, taken}
 use Rattle.bench.specs.Standing.{Standing}
 use Rattle.bench.specs.Laws.{May-ask, Made-shaped, Cells-shaped}
 use Rattle.bench.proofs.Slots.{named-spent, taken-by}
-use Rattle.bench.proofs.Stays.{reached-found, slot-held}
+use Rattle.bench.proofs.Kept.{reached-found, slot-held}
 use Rattle.bench.proofs.Rebuild.{lessens}
 use Rattle.bench.proofs.Exact.{own-apart}
 

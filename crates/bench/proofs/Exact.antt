@@ -19,7 +19,7 @@ use Rattle.bench.specs.Laws.{Make-exact, Rebuild-exact, Make-open, Rebuild-ope
 use Rattle.bench.proofs.Pass.{pass-right}
 use Rattle.bench.proofs.Slots.{by-in}
 use Rattle.bench.proofs.Agree.{forth, back}
-use Rattle.bench.proofs.Stays.{found-reached, reached-found, slot-held}
+use Rattle.bench.proofs.Kept.{found-reached, reached-found, slot-held}
 use Rattle.bench.proofs.Moves.{root-own}
 use Rattle.bench.proofs.Rebuild.{lessens}
 use Rattle.bench.proofs.Count.{length-most, length-full, times-by, pulled}

@@ -1,7 +1,7 @@
 pub mod Pass
 pub mod Slots
 pub mod Agree
-pub mod Stays
+pub mod Kept
 pub mod Moves
 pub mod Make
 pub mod Rebuild

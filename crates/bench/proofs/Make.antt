@@ -21,7 +21,7 @@ use Rattle.bench.specs.Picture.{root-by, node-by}
 use Rattle.bench.specs.Standing.{Standing}
 use Rattle.bench.specs.Laws.{Make-stands}
 use Rattle.bench.proofs.Slots.{named-spent, named-fill, length-spent, by-in, named-by, spent-by, taken-by}
-use Rattle.bench.proofs.Stays.{found-reached, reached-found, As-was, own-there}
+use Rattle.bench.proofs.Kept.{found-reached, reached-found, As-was, own-there}
 
 -- two ways to number that are the same on what stands there
 map-same : (f g : ℕ → ℕ) (xs : List ℕ) → ((i : ℕ) → In i xs → f i ≡ g i) → map f xs ≡ map g xs
@@ -33,7 +33,7 @@ slots-same f g [] h = refl
 slots-same f g (None ∷ ss) h = rw (slots-same f g ss h)
 slots-same f g (Some c ∷ ss) h = rw (h c (omega (arith, hit-self c)), slots-same f g ss (λ i k. h i (omega arith)))
 
--- a node more, whose links lead to nodes that are there
+-- links still lead to earlier nodes with a new node at the end
 node-more : (nodes : List Node) (x : Node) → ((i : ℕ) → In i (x .links) → i < length nodes) → ((j i : ℕ) → In i (node-at nodes j .links) → i < j) → (j i : ℕ) → In i (node-at (nodes ++ x ∷ []) j .links) → i < j
 node-more nodes x new old j i h = ⊎-elim
     (λ e. omega (arith, new i (at (getD-at nodes x [] blank j (sym e)))))
@@ -44,17 +44,17 @@ node-more nodes x new old j i h = ⊎-elim
     at e = subst (λ (y : Node). In i (y .links)) e h
 
 -- what is reached after a make is the new cell, or is as it was
-pub news : {m n : Meaning} {x : Node} {c : ℕ} → Made m n x c → ((d : ℕ) → times d (x .links) ≤ m .holds d) → (d : ℕ) → Reached n d → (d ≡ c) ⊎ As-was m n d
-news {m} {n} {x} {c} v spare d (by-hold h) = ⊎-elim
+pub new-or-was : {m n : Meaning} {x : Node} {c : ℕ} → Made m n x c → ((d : ℕ) → times d (x .links) ≤ m .holds d) → (d : ℕ) → Reached n d → (d ≡ c) ⊎ As-was m n d
+new-or-was {m} {n} {x} {c} v spare d (by-hold h) = ⊎-elim
     (λ p. inl (p .0))
     (λ p. let r : Reached m d = by-hold (omega (arith, p .1, v .moved .held d)) in inr (r, v .moved .kept d r (by-hold h)))
     (hit-cases d c)
-news {m} {n} {x} {c} v spare d (by-link {j} k h) =
+new-or-was {m} {n} {x} {c} v spare d (by-link {j} k h) =
     let r : Reached m d =
     ⊎-elim
     (λ e. by-hold (omega (arith, spare d, subst (λ (y : Node). In d (y .links)) (ap (n .content) e ∙ v .written) h)))
     (λ w. by-link (w .0) (subst (λ (y : Node). In d (y .links)) (w .1) h))
-    (news v spare j k) in
+    (new-or-was v spare j k) in
     inr (r, v .moved .kept d r (by-link k h))
 
 module _ {t : Machine} {slots : List (Option ℕ)} {m n : Meaning} {own : ℕ → ℕ} (s : Standing t slots m own) (d kind : ℕ) (value : ℤ) (rs : List ℕ) (c : ℕ)
@@ -104,7 +104,7 @@ module _ {t : Machine} {slots : List (Option ℕ)} {m n : Meaning} {own : ℕ �
 
   -- what is reached, and where it stands
   which : (e : ℕ) → Reached n e → ((e ≡ c) × (new e ≡ top)) ⊎ (As-was m n e × (new e ≡ own e))
-  which e r = ⊎-elim (λ q. inl (q, ap new q ∙ new-here)) (λ w. inr (w, new-old (w .0))) (news v spare e r)
+  which e r = ⊎-elim (λ q. inl (q, ap new q ∙ new-here)) (λ w. inr (w, new-old (w .0))) (new-or-was v spare e r)
 
   there-new : (e : ℕ) → Reached n e → new e < length (t .nodes ++ y ∷ [])
   there-new e r = ⊎-elim (λ p. omega (arith, p .1, length-push (t .nodes) y)) (λ p. omega (arith, p .1, own-there s (p .0 .0), length-push (t .nodes) y)) (which e r)
@@ -126,8 +126,8 @@ module _ {t : Machine} {slots : List (Option ℕ)} {m n : Meaning} {own : ℕ �
       (which f k))
       (which e r)
 
-  pub makes : Standing (made t d kind value rs) after n new
-  makes = record {
+  pub made-standing : Standing (made t d kind value rs) after n new
+  made-standing = record {
     sound = record {
       earlier = node-more (t .nodes) y
           (λ i h. let b = by-in own (taken slots rs) i (subst (λ (z : Node). In i (z .links)) y-own h) in omega (arith, b .2, own-there s (spare-reached (b .0) (b .1))))
@@ -146,4 +146,4 @@ module _ {t : Machine} {slots : List (Option ℕ)} {m n : Meaning} {own : ℕ �
   }
 
 pub make-stands : Make-stands
-make-stands t slots m n d kind value rs c (own, s) here empty v = (_, makes s d kind value rs c here empty v)
+make-stands t slots m n d kind value rs c (own, s) here empty v = (_, made-standing s d kind value rs c here empty v)

@@ -18,7 +18,7 @@ use Rattle.bench.specs.Standing.{Standing}
 use Rattle.bench.specs.Laws.{Start-stands, Rest-stands, Release-stands, Copy-stands, Part-stands}
 use Rattle.bench.proofs.Slots.{named-spend, named-fill, named-filled, root-at-by, filled-by}
 use Rattle.bench.proofs.Agree.{links-agree}
-use Rattle.bench.proofs.Stays.{reached-found, found-reached, stays, slot-held, keeps}
+use Rattle.bench.proofs.Kept.{reached-found, found-reached, was-reached, slot-held, keeps}
 
 pub start-stands : Start-stands
 start-stands m none = (
@@ -37,7 +37,7 @@ start-stands m none = (
 
 pub rest-stands : Rest-stands
 rest-stands t slots m n (own, s) v =
-    (own, keeps s (t .roots) slots n (s .agree .roots) (v .sized) (λ d. omega (arith, v .held d, s .out d)) (stays v (λ d i. absurd (omega arith))))
+    (own, keeps s (t .roots) slots n (s .agree .roots) (v .sized) (λ d. omega (arith, v .held d, s .out d)) (was-reached v (λ d i. absurd (omega arith))))
 
 module _ {t : Machine} {slots : List (Option ℕ)} {m : Meaning} {own : ℕ → ℕ} (s : Standing t slots m own) where
   -- the machine's roots: each, one in use, and all without one
@@ -50,21 +50,21 @@ module _ {t : Machine} {slots : List (Option ℕ)} {m : Meaning} {own : ℕ → 
   pub spend-own : (r : ℕ) → spend (t .roots) r ≡ map (root-by own) (spend slots r)
   spend-own r = ap (λ l. spend l r) (s .agree .roots) ∙ sym (map-set (root-by own) slots r None)
 
-  pub releases : (n : Meaning) (r c : ℕ) → root-at slots r ≡ Some c → Moved m n (c ∷ []) [] → Standing (released t r) (spend slots r) n own
-  releases n r c e v =
+  pub released-standing : (n : Meaning) (r c : ℕ) → root-at slots r ≡ Some c → Moved m n (c ∷ []) [] → Standing (released t r) (spend slots r) n own
+  released-standing n r c e v =
       keeps s (spend (t .roots) r) (spend slots r) n (spend-own r) (v .sized)
       (λ d. omega (arith, v .held d, s .out d, named-spend d slots r, ap (λ o. times d (opt o)) e))
-      (stays v (λ d i. absurd (omega arith)))
+      (was-reached v (λ d i. absurd (omega arith)))
 
 pub release-stands : Release-stands
-release-stands t slots m n r c (own, s) e v = (own, releases s n r c e v)
+release-stands t slots m n r c (own, s) e v = (own, released-standing s n r c e v)
 
 pub copy-stands : Copy-stands
 copy-stands t slots m n a d c (own, s) e h z v = (
   own,
   keeps s _ (set slots d (Some c)) n (rw (root-own s a c e, s .agree .roots) (sym (map-set (root-by own) slots d (Some c)))) (v .sized)
       (λ x. omega (arith, v .held x, s .out x, named-fill x slots d c h z))
-      (stays v (λ x i. by-hold (⊎-elim (λ p. omega (arith, slot-held s a c e, ap (m .holds) (p .0))) (λ p. absurd (omega (arith, p .1))) (hit-cases x c)))),
+      (was-reached v (λ x i. by-hold (⊎-elim (λ p. omega (arith, slot-held s a c e, ap (m .holds) (p .0))) (λ p. absurd (omega (arith, p .1))) (hit-cases x c)))),
 )
 
 pub part-stands : Part-stands
@@ -73,7 +73,7 @@ part-stands t slots m n r c rs (own, s) e f v = (
   keeps s _ (filled (spend slots r) rs (m .content c .links)) n
       (rw (root-own s r c e, links-agree (s .agree) (reached-found (s .out) here), spend-own s r) (filled-by own (spend slots r) rs (m .content c .links))) (v .sized)
       (λ d. omega (arith, v .held d, s .out d, named-spend d slots r, ap (λ o. times d (opt o)) e, named-filled d (spend slots r) rs (m .content c .links) f))
-      (stays v (λ d i. by-link here i)),
+      (was-reached v (λ d i. by-link here i)),
 )
   where
     here : Reached m c

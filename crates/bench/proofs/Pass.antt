@@ -15,8 +15,8 @@ use Rattle.bench.specs.Machine.{Machine, Sound, node-at, swept}
 use Rattle.bench.specs.Picture.{Found, from-root, from-link, machine-picture}
 use Rattle.bench.specs.Laws.{Pass-right}
 
-pub in-append : (c : ℕ) (xs ys : List ℕ) → In c (xs ++ ys) → In c xs ⊎ In c ys
-in-append c xs ys h = ⊎-elim inl (λ z. inr (omega (arith, times-append c xs ys))) (cases-lt 0 (times c xs))
+pub in-either : (c : ℕ) (xs ys : List ℕ) → In c (xs ++ ys) → In c xs ⊎ In c ys
+in-either c xs ys h = ⊎-elim inl (λ z. inr (omega (arith, times-append c xs ys))) (cases-lt 0 (times c xs))
 
 module _ (nodes : List Node) where
   -- the newest node is listed, or not
@@ -49,7 +49,7 @@ module _ {t : Machine} (s : Sound t) where
   listed-found (suc n) from f i = swept-both (t .nodes) n from (λ l. In i l → F i)
       (λ y h. ⊎-elim
       (λ p. subst F (sym (p .0)) (f n y))
-      (λ p. listed-found n (node-at (t .nodes) n .links ++ from) (λ k q. ⊎-elim (from-link (f n y)) (f k) (in-append k (node-at (t .nodes) n .links) from q)) i (omega (arith, p .1)))
+      (λ p. listed-found n (node-at (t .nodes) n .links ++ from) (λ k q. ⊎-elim (from-link (f n y)) (f k) (in-either k (node-at (t .nodes) n .links) from q)) i (omega (arith, p .1)))
       (hit-cases i n))
       (λ z h. listed-found n from f i h)
 
@@ -77,7 +77,7 @@ module _ {t : Machine} (s : Sound t) where
         (λ e. omega (arith, times-append i (node-at (t .nodes) n .links) from, subst (λ x. In i (node-at (t .nodes) x .links)) e l))
         (λ ne. omega (arith, times-append i (node-at (t .nodes) n .links) from, d .linked j i (omega arith) q l))
         (cases-eq j n))
-        (in-append j (node-at (t .nodes) n .links) from k);
+        (in-either j (node-at (t .nodes) n .links) from k);
   }
 
   found-listed : (n : ℕ) (from : List ℕ) → Down-to n from → (i : ℕ) → i < n → F i → In i (swept (t .nodes) n from)

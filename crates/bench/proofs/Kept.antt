@@ -32,12 +32,12 @@ abbrev pub As-was : Meaning → Meaning → ℕ → Type 0
 As-was m n d = Reached m d × (n .content d ≡ m .content d)
 
 -- where what is given was reached
-pub stays : {m n : Meaning} {spent given : List ℕ} → Moved m n spent given → ((d : ℕ) → In d given → Reached m d) → (d : ℕ) → Reached n d → As-was m n d
-stays {m} {n} {spent} {given} v g d (by-hold h) =
+pub was-reached : {m n : Meaning} {spent given : List ℕ} → Moved m n spent given → ((d : ℕ) → In d given → Reached m d) → (d : ℕ) → Reached n d → As-was m n d
+was-reached {m} {n} {spent} {given} v g d (by-hold h) =
     let r : Reached m d = ⊎-elim by-hold (λ z. g d (omega (arith, v .held d))) (cases-lt 0 (m .holds d)) in
     (r, v .kept d r (by-hold h))
-stays {m} v g d (by-link {j} k h) =
-    let w = stays v g j k in
+was-reached {m} v g d (by-link {j} k h) =
+    let w = was-reached v g j k in
     let r : Reached m d = by-link (w .0) (subst (λ (x : Node). In d (x .links)) (w .1) h) in
     (r, v .kept d r (by-link k h))
 
