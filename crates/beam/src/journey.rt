@@ -1,9 +1,14 @@
 ghost use mathlib.Core.Path.{_≡_};
 ghost use mathlib.Core.List.{[]};
 ghost use Rattle.store.specs.Meaning.{Out};
-use crate::log::{Log, Stage};
+use crate::log::Log;
+use crate::log::Stage;
 use crate::shown::Shown;
-use crate::steps::{Lift, hook, make_tag, set_down, turn};
+use crate::steps::Lift;
+use crate::steps::hook;
+use crate::steps::make_tag;
+use crate::steps::set_down;
+use crate::steps::turn;
 use store::fault::StoreFault;
 use store::interface::Store;
 
@@ -20,7 +25,9 @@ pub struct Beam {
 
 // The kinds of pose cells, each linking to the pose before it.
 const TROLLEY: u8 = 66;
+
 const SLEW: u8 = 67;
+
 const HOIST: u8 = 68;
 
 // One beam from the yard gate to its floor. Every hold is spent at the end, refused or not.
@@ -36,7 +43,11 @@ pub fn follow<S: Store + Shown>(store: &mut S, beam: &Beam, log: &mut Log) -> Re
     let lift = hook(store, tag)?;
     log.note(Stage::Hooked, Some(lift.state.number()), store.table());
     let lift = turn(store, lift, TROLLEY, beam.trolley, 1)?;
-    log.note(Stage::TrolleyMoved, Some(lift.state.number()), store.table());
+    log.note(
+        Stage::TrolleyMoved,
+        Some(lift.state.number()),
+        store.table(),
+    );
     let lift = turn(store, lift, SLEW, beam.slew, 2)?;
     log.note(Stage::Slewed, Some(lift.state.number()), store.table());
     let lift = turn(store, lift, HOIST, beam.hoist, 3)?;

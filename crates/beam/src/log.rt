@@ -50,15 +50,26 @@ pub struct Log {
 
 impl Log {
     pub fn new() -> Log {
-        let row = Row { stage: Stage::AtGate, cell: None, cells: [Cell::BLANK; CELLS] };
-        Log { rows: [row; ROWS], used: 0 }
+        let row = Row {
+            stage: Stage::AtGate,
+            cell: None,
+            cells: [Cell::BLANK; CELLS],
+        };
+        Log {
+            rows: [row; ROWS],
+            used: 0,
+        }
     }
 
     // A further row; past the last one it is left out.
     pub fn note(&mut self, stage: Stage, cell: Option<u16>, table: &[Cell]) {
         if self.used < ROWS {
             let i = self.used;
-            self.rows[i] = Row { stage, cell, cells: copied(table) };
+            self.rows[i] = Row {
+                stage,
+                cell,
+                cells: copied(table),
+            };
             self.used = i + 1;
         }
     }
@@ -104,5 +115,9 @@ fn print_cell(rt: &LibcRuntime, cell: &Cell) -> io::Result<()> {
     if count > 0 {
         return print!(rt, " {count}");
     }
-    if cell.link0.is_some() { print!(rt, " o") } else { print!(rt, " .") }
+    if cell.link0.is_some() {
+        print!(rt, " o")
+    } else {
+        print!(rt, " .")
+    }
 }

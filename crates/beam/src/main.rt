@@ -8,18 +8,39 @@ mod trials;
 ghost use mathlib.Core.Path.{_≡_};
 ghost use mathlib.Core.List.{[]};
 ghost use Rattle.store.specs.Meaning.{Out};
-use journey::{Beam, follow};
-use log::{CELLS, Log, print};
-use shown::{DeferringShown, EagerShown, Shown};
+use journey::Beam;
+use journey::follow;
+use log::CELLS;
+use log::Log;
+use log::print;
+use shown::DeferringShown;
+use shown::EagerShown;
+use shown::Shown;
 use std::error::AnyError;
 use store::cell::Cell;
-use store::deferring::{Deferring, DeferringStore};
-use store::eager::{Eager, EagerStore};
+use store::deferring::Deferring;
+use store::deferring::DeferringStore;
+use store::eager::Eager;
+use store::eager::EagerStore;
 use store::interface::Store;
 
 const BEAMS: [Beam; 2] = [
-    Beam { mark: 4711, weight: 1850, floor: 7, trolley: 32, slew: 140, hoist: 24 },
-    Beam { mark: 4712, weight: 920, floor: 8, trolley: 18, slew: -75, hoist: 27 },
+    Beam {
+        mark: 4711,
+        weight: 1850,
+        floor: 7,
+        trolley: 32,
+        slew: 140,
+        hoist: 24,
+    },
+    Beam {
+        mark: 4712,
+        weight: 920,
+        floor: 8,
+        trolley: 18,
+        slew: -75,
+        hoist: 27,
+    },
 ];
 
 fn main(rt: LibcRuntime) -> Result<(), AnyError> {
@@ -29,9 +50,18 @@ fn main(rt: LibcRuntime) -> Result<(), AnyError> {
 // The same beams on one store and then on the other.
 fn run(rt: &LibcRuntime) -> Result<(), AnyError> {
     let mut table = [Cell::BLANK; CELLS];
-    println!(rt, "Beams from the yard gate to their floors, on a table of {CELLS} cells.")?;
-    println!(rt, "A row has the stage, the cell of the newest state, the count of each cell from 0 on,")?;
-    println!(rt, "and the tally. A dot is a wiped cell, o a listed one with its links untouched.")?;
+    println!(
+        rt,
+        "Beams from the yard gate to their floors, on a table of {CELLS} cells."
+    )?;
+    println!(
+        rt,
+        "A row has the stage, the cell of the newest state, the count of each cell from 0 on,"
+    )?;
+    println!(
+        rt,
+        "and the tally. A dot is a wiped cell, o a listed one with its links untouched."
+    )?;
     deferring(rt, &mut table)?;
     eager(rt, &mut table)
 }
@@ -58,8 +88,18 @@ fn carry<S: Store + Shown>(rt: &LibcRuntime, store: &mut S) -> Result<(), AnyErr
     requires none { ⌜ Out (S·Store .means (now store)) [] ⌝ }
 {
     'each: for beam in &BEAMS {
-        let Beam { mark, weight, floor, trolley, slew, hoist } = *beam;
-        println!(rt, "beam {mark}: {weight} kg to floor {floor}, trolley {trolley} m, slew {slew} degrees, hoist {hoist} m")?;
+        let Beam {
+            mark,
+            weight,
+            floor,
+            trolley,
+            slew,
+            hoist,
+        } = *beam;
+        println!(
+            rt,
+            "beam {mark}: {weight} kg to floor {floor}, trolley {trolley} m, slew {slew} degrees, hoist {hoist} m"
+        )?;
         let mut log = Log::new();
         if follow(store, beam, &mut log).is_err() {
             return Err("want of a cell".into());

@@ -5,8 +5,11 @@ ghost use Rattle.store.specs.Numbers.{times, opt};
 ghost use Rattle.store.specs.Meaning.{Few, Out, Spare, less, arity};
 ghost use Rattle.store.specs.Interface.{Fits, spent, on};
 ghost use Rattle.beam.specs.Carried.{Carried, Exchanged, Holds-links, Tagged, Lifted};
-use store::fault::{Refused, RefusedRebuild, StoreFault};
-use store::hold::{Hold, Links};
+use store::fault::Refused;
+use store::fault::RefusedRebuild;
+use store::fault::StoreFault;
+use store::hold::Hold;
+use store::hold::Links;
 use store::interface::Store;
 
 // A beam on the hook: the record on its tag, where the hook is, and the state of the crane, which links to both.
@@ -61,7 +64,13 @@ pub fn make<S: Store>(store: &mut S, kind: u8, value: i32, links: Links) -> Resu
 }
 
 // Rebuilds a cell; where it is refused, the old hold and the holds for its links are ended.
-pub fn rebuild<S: Store>(store: &mut S, old: Hold, kind: u8, value: i32, links: Links) -> Result<Hold, StoreFault>
+pub fn rebuild<S: Store>(
+    store: &mut S,
+    old: Hold,
+    kind: u8,
+    value: i32,
+    links: Links,
+) -> Result<Hold, StoreFault>
     requires ok { ⌜ S·Store .ok (now store) ⌝ }
     requires few { ⌜ Few (S·Store .means (now store)) ⌝ }
     requires held { ⌜ 0 < S·Store .means (now store) .holds (old .cell) ⌝ }
@@ -82,7 +91,12 @@ pub fn rebuild<S: Store>(store: &mut S, old: Hold, kind: u8, value: i32, links: 
 }
 
 // The record on a beam's tag: its mark, its weight, and the floor that it goes to.
-pub fn make_tag<S: Store>(store: &mut S, mark: i32, weight: i32, floor: i32) -> Result<Hold, StoreFault>
+pub fn make_tag<S: Store>(
+    store: &mut S,
+    mark: i32,
+    weight: i32,
+    floor: i32,
+) -> Result<Hold, StoreFault>
     requires ok { ⌜ S·Store .ok (now store) ⌝ }
     requires none { ⌜ Out (S·Store .means (now store)) [] ⌝ }
     ensures ok { λ _. ⌜ S·Store .ok (now (store .exit)) ⌝ }
@@ -113,7 +127,13 @@ pub fn hook<S: Store>(store: &mut S, tag: Hold) -> Result<Lift, StoreFault>
 }
 
 // One axis moves: a new pose before the old one, and the state rebuilt with it. The tag's record is shared.
-pub fn turn<S: Store>(store: &mut S, lift: Lift, axis: u8, value: i32, step: i32) -> Result<Lift, StoreFault>
+pub fn turn<S: Store>(
+    store: &mut S,
+    lift: Lift,
+    axis: u8,
+    value: i32,
+    step: i32,
+) -> Result<Lift, StoreFault>
     requires ok { ⌜ S·Store .ok (now store) ⌝ }
     requires carried { ⌜ Carried (S·Store .means (now store)) lift ⌝ }
     requires axis { ⌜ arity axis ≡ 1 ⌝ }
@@ -132,7 +152,13 @@ pub fn turn<S: Store>(store: &mut S, lift: Lift, axis: u8, value: i32, step: i32
 }
 
 // Rebuilds `old` as a state over the tag and the pose, which stay held.
-fn state_over<S: Store>(store: &mut S, tag: Hold, pose: Hold, old: Hold, step: i32) -> Result<Lift, StoreFault>
+fn state_over<S: Store>(
+    store: &mut S,
+    tag: Hold,
+    pose: Hold,
+    old: Hold,
+    step: i32,
+) -> Result<Lift, StoreFault>
     requires ok { ⌜ S·Store .ok (now store) ⌝ }
     requires out { ⌜ Out (S·Store .means (now store)) (tag .cell ∷ (pose .cell ∷ (old .cell ∷ []))) ⌝ }
     ensures ok { λ _. ⌜ S·Store .ok (now (store .exit)) ⌝ }

@@ -1,12 +1,18 @@
 ghost use mathlib.Core.Path.{_≡_};
 ghost use mathlib.Core.List.{[]};
 ghost use Rattle.store.specs.Meaning.{Out};
-use crate::shown::{DeferringShown, EagerShown, Shown};
-use crate::steps::{make, rebuild};
+use crate::shown::DeferringShown;
+use crate::shown::EagerShown;
+use crate::shown::Shown;
+use crate::steps::make;
+use crate::steps::rebuild;
 use std::test::*;
-use store::cell::{Cell, CellPartialEq};
-use store::deferring::{Deferring, DeferringStore};
-use store::eager::{Eager, EagerStore};
+use store::cell::Cell;
+use store::cell::CellPartialEq;
+use store::deferring::Deferring;
+use store::deferring::DeferringStore;
+use store::eager::Eager;
+use store::eager::EagerStore;
 use store::hold::Links;
 use store::interface::Store;
 use store::tally::tally;
@@ -59,7 +65,14 @@ fn the_eager_store_has_wiped_it() -> Result<(), Fail> {
 
 // Whether a table of n cells, at most 4,097, is set up; and a refused one comes back as it went.
 fn fits(n: usize) -> Option<bool> {
-    let mark = Cell { kind: 9, value: 9, link0: None, link1: None, count: 9, next: None };
+    let mark = Cell {
+        kind: 9,
+        value: 9,
+        link0: None,
+        link1: None,
+        count: 9,
+        next: None,
+    };
     let mut table = [mark; 4097];
     if n > 4097 {
         return None;
@@ -67,7 +80,11 @@ fn fits(n: usize) -> Option<bool> {
     match Deferring::set_up(&mut table[0..n]) {
         Ok(_) => Some(true),
         Err(back) => {
-            if back.cells.len() == n && (n == 0 || back.cells[0] == mark) { Some(false) } else { None }
+            if back.cells.len() == n && (n == 0 || back.cells[0] == mark) {
+                Some(false)
+            } else {
+                None
+            }
         }
     }
 }

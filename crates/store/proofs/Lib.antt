@@ -1,4 +1,5 @@
 pub mod Numbers
+pub mod Count
 pub mod Cells
 pub mod Writes
 pub mod Sinks

@@ -13,47 +13,8 @@ use Rattle.store.specs.Numbers.{hit, times, In}
 use Rattle.store.specs.Cells.{at, links-of, total}
 use Rattle.store.specs.Heap.{Heap, cell, sunk-all, front-all, shed, turned, turned-pile, drained}
 use Rattle.store.specs.Sound.{Sound, Chain, Piling}
-use Rattle.store.proofs.Numbers.{hit-cases, hit-self, hit-other}
+use Rattle.store.proofs.Count.{length-most}
 use Rattle.store.proofs.Pile.{weight, Top, topmost, turn, none-some}
-
--- g 0 + .. + g (n - 1)
-sum : ℕ → (ℕ → ℕ) → ℕ
-sum zero g = 0
-sum (suc n) g = g n + sum n g
-
-sum-none : (n : ℕ) (g : ℕ → ℕ) → ((d : ℕ) → d < n → g d ≡ 0) → sum n g ≡ 0
-unfolding sum
-sum-none zero g z = refl
-sum-none (suc n) g z = omega (arith, z n (omega arith), sum-none n g (λ d l. z d (omega arith)))
-
-sum-hit : (n c : ℕ) → c < n → sum n (λ d. hit d c) ≡ 1
-unfolding sum
-sum-hit zero c l = absurd (omega arith)
-sum-hit (suc n) c l = ⊎-elim
-    (λ p. omega (arith, p .1, sum-none n (λ d. hit d c) (λ d m. hit-other d c (λ e. omega (arith, p .0)))))
-    (λ p. omega (arith, p .1, sum-hit n c (let m : c < n = ⊎-elim (λ q. q) (λ q. absurd (p .0 (omega arith))) (cases-lt c n) in m)))
-    (hit-cases n c)
-
-sum-add : (n : ℕ) (f g : ℕ → ℕ) → sum n (λ d. f d + g d) ≡ sum n f + sum n g
-unfolding sum
-sum-add zero f g = refl
-sum-add (suc n) f g = omega (arith, sum-add n f g)
-
-sum-most : (n : ℕ) (g : ℕ → ℕ) → ((d : ℕ) → g d ≤ 1) → sum n g ≤ n
-unfolding sum
-sum-most zero g m = omega arith
-sum-most (suc n) g m = omega (arith, m n, sum-most n g m)
-
--- a list of numbers below n has as many as its numbers stand in it
-sum-times : (n : ℕ) (xs : List ℕ) → ((d : ℕ) → n ≤ d → times d xs ≡ 0) → sum n (λ d. times d xs) ≡ length xs
-sum-times n [] z = sum-none n (λ d. 0) (λ d l. refl)
-sum-times n (x ∷ xs) z =
-    let l : x < n = ⊎-elim (λ q. q) (λ q. absurd (omega (arith, z x q, hit-self x))) (cases-lt x n) in
-    omega (arith, sum-add n (λ d. hit d x) (λ d. times d xs), sum-hit n x l, sum-times n xs (λ d q. omega (arith, z d q)))
-
--- so it has at most n where none stands twice
-pub once-length : (n : ℕ) (xs : List ℕ) → ((d : ℕ) → times d xs ≤ 1) → ((d : ℕ) → n ≤ d → times d xs ≡ 0) → length xs ≤ n
-once-length n xs o z = omega (arith, sum-times n xs z, sum-most n (λ d. times d xs) o)
 
 -- the numbers met along the successors, at most k
 pub along : ℕ → List Cell → Option ℕ → List ℕ
@@ -80,10 +41,13 @@ load h pile = total (h .cells) + length (along (length (h .cells)) (h .cells) pi
 pub load-is : {h : Heap} {pile : Option ℕ} (p : Piling h pile) → load h pile ≡ weight p
 unfolding load
 load-is {h} {pile} p =
-    let few : length (p .waiting ++ p .listed) ≤ length (h .cells) = once-length (length (h .cells)) (p .waiting ++ p .listed) once (λ d l. p .sound .beyond d l) in
+    let few : length (p .waiting ++ p .listed) ≤ length (h .cells) = length-most (p .waiting ++ p .listed) once (length (h .cells)) small in
     let e = along-chain (p .waiting) (length (h .cells)) (h .cells) pile (p .top) (omega (arith, length-append (p .waiting) (p .listed))) in
     ap (λ (xs : List ℕ). total (h .cells) + length xs) e
   where
+    small : (d : ℕ) → In d (p .waiting ++ p .listed) → d < length (h .cells)
+    small d i = ⊎-elim (λ l. l) (λ l. absurd (omega (arith, p .sound .beyond d l))) (cases-lt d (length (h .cells)))
+
     once : (d : ℕ) → times d (p .waiting ++ p .listed) ≤ 1
     once d = ⊎-elim
         (λ l. ⊎-elim (λ u. omega (arith, p .sound .used d u)) (λ z. omega (arith, p .sound .each d l (omega arith))) (cases-lt 0 (at (h .cells) d .count)))

@@ -1,0 +1,11 @@
+pub mod Pass
+pub mod Slots
+pub mod Agree
+pub mod Kept
+pub mod Moves
+pub mod Make
+pub mod Rebuild
+pub mod Alike
+pub mod Count
+pub mod Exact
+pub mod Asked

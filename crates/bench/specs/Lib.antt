@@ -1,0 +1,4 @@
+pub mod Machine
+pub mod Picture
+pub mod Standing
+pub mod Laws
