@@ -9,3 +9,8 @@ pub mod Alike
 pub mod Count
 pub mod Exact
 pub mod Asked
+pub mod Passes
+pub mod Facts
+pub mod Taking
+pub mod Handing
+pub mod Replies

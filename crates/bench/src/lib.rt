@@ -1,4 +1,9 @@
 // The bench: a node machine, and that a store's meaning alone is enough to agree with it. The contract of each law is a theorem.
+pub mod bench;
+pub mod call;
+pub mod fault;
+pub mod tests;
+
 ghost use Rattle.bench.specs.Laws as law;
 
 // The count of reached nodes is a count of what is found from the roots.

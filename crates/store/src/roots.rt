@@ -1,5 +1,7 @@
 ghost use mathlib.Core.Path.{_≡_};
+ghost use mathlib.Core.List.{map};
 ghost use lib.ListN.{length, set, replicate};
+ghost use Rattle.std.specs.Options.{isSome};
 ghost use Prim.Native.Nat.{ℕ};
 ghost use Rattle.std.specs.declared.option.Option.{Option};
 ghost use Rattle.std.specs.declared.option.Option.the-variants.{None};
@@ -56,6 +58,17 @@ impl Roots {
             Some(cell) => Some(Hold { cell }),
             None => None,
         }
+    }
+
+    // Which roots are in use.
+    pub fn in_use(&self) -> [bool; 16]
+        ensures { λ u. ⌜ u ≡ map isSome (now (self .entry) .slots) ⌝ }
+    {
+        let mut used = [false; 16];
+        'each: for i in 0..16 {
+            used[i] = self.slots[i].is_some();
+        }
+        used
     }
 
     // The number of the cell that a root names.
