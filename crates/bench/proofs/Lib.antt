@@ -14,3 +14,4 @@ pub mod Facts
 pub mod Taking
 pub mod Handing
 pub mod Replies
+pub mod Serving

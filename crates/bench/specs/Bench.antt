@@ -27,11 +27,12 @@ pub record Stood (slots : List (Option ℕ)) (m : Meaning) : Type 0 where
   pub stands : Stands machine slots m
   pub shaped : Shaped machine
 
--- the answer is the machine's, and the machine's next state agrees
+-- the answer is the machine's, the machine's next state agrees, and the store is of n cells as before
 pub record Follows (n : ℕ) (t : Machine) (call : Call) (r : Result Answer BenchFault) (slots : List (Option ℕ)) (m : Meaning) : Type 0 where
   pub told : r ≡ step n t call .0
   pub stands : Stands (step n t call .1) slots m
   pub shaped : Shaped (step n t call .1)
+  pub sized : m .size ≡ n
 
 -- so for every machine that agrees before the call; slots and m are those before it, new and k those after
 abbrev pub Answers : List (Option ℕ) → Meaning → Call → Result Answer BenchFault → List (Option ℕ) → Meaning → Type 0
@@ -52,7 +53,7 @@ One slots (Rebuild r k v a b) did = did (rebuilding (cell-in (root-at slots r)) 
 One slots (Look r) did = ⊥
 One slots (Same r s) did = ⊥
 
--- after a refusal, an other kind, a look or a same the roots are as before and the store is kept; any other answer comes of one change of the store
+-- after a refusal, an other kind, a look or a same the roots are as before and the store is kept; any other answer comes of one change, of which the store tells in did
 abbrev pub Effect : List (Option ℕ) → Call → Result Answer BenchFault → List (Option ℕ) → Type 0 → (Asked → Type 0) → Type 0
 Effect slots call (Err e) new kept did = (new ≡ slots) × kept
 Effect slots call (Ok Done) new kept did = One slots call did

@@ -6,3 +6,5 @@ pub mod Faults
 pub mod Tests
 pub mod Step
 pub mod Bench
+pub mod Lists
+pub mod Examples

@@ -15,7 +15,9 @@ ghost use Rattle.store.specs.Interface.{on};
 ghost use Rattle.store.specs.Rooted.{root-at};
 ghost use Rattle.bench.specs.declared.call.Answer.the-variants.{Done};
 ghost use Rattle.bench.specs.declared.call.Call.the-variants.{Make, Copy, Release, Match, Rebuild, Look, Same};
-ghost use Rattle.bench.specs.Machine.{spend, spent, taken, filled};
+ghost use Rattle.bench.specs.Machine.{Machine, Shaped, spend, spent, taken, filled};
+ghost use Rattle.bench.specs.Standing.{Stands};
+ghost use Rattle.bench.specs.Lists.{Served};
 ghost use Rattle.bench.specs.Step.{linked, link-roots};
 ghost use Rattle.bench.specs.Tests.{flags, fault-of};
 ghost use Rattle.bench.specs.Bench.{Stood, Answers, Effect, cell-in, done-or, Back, put};
@@ -23,6 +25,7 @@ use crate::call::Answer;
 use crate::call::Call;
 use crate::fault::BenchFault;
 use crate::fault::BenchFaultFromWanting;
+use crate::fault::NoPlace;
 use crate::fault::Wanting;
 use crate::tests::test;
 use store::fault::Refused;
@@ -298,5 +301,26 @@ impl<S: Store> Bench<S> {
             Call::Look { r } => Ok(self.look_root(r)),
             Call::Same { r, s } => Ok(self.same_roots(r, s)),
         }
+    }
+
+    // Answers a list of calls in order; refused where the answers have not as many places as there are calls.
+    pub fn send_all(
+        &mut self,
+        calls: &[Call],
+        answers: &mut [Result<Answer, BenchFault>],
+    ) -> Result<(), NoPlace>
+        requires ok { ⌜ S·Store .ok (now self .store) ⌝ }
+        requires stood { ⌜ Stood (now self .roots .slots) (S·Store .means (now self .store)) ⌝ }
+        ensures ok { λ _. ⌜ S·Store .ok (now (self .exit) .store) ⌝ }
+        ensures stood { λ _. ⌜ Stood (now (self .exit) .roots .slots) (S·Store .means (now (self .exit) .store)) ⌝ }
+        ensures served { λ r. ⌜ elim r [ Ok _ ↦ ((t : Machine) → Stands t (now (self .entry) .roots .slots) (S·Store .means (now (self .entry) .store)) → Shaped t → Served S·Store (S·Store .means (now (self .entry) .store) .size) t (now (calls .entry)) (now (answers .exit)) (now (self .entry)) (now (self .exit))) | Err _ ↦ (length (now (answers .entry)) ≡ length (now (calls .entry)) → ⊥) × (now (self .exit) ≡ now (self .entry)) × (now (answers .exit) ≡ now (answers .entry)) ] ⌝ }
+    {
+        if answers.len() != calls.len() {
+            return Err(NoPlace);
+        }
+        'each: for i in 0..calls.len() {
+            answers[i] = self.send(&calls[i]);
+        }
+        Ok(())
     }
 }

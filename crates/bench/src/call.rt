@@ -1,5 +1,5 @@
-// What may be sent to a bench. Root and kind fields are bytes, and any byte may be sent; a and b are the roots for
-// links 0 and 1, and 255 exactly where the kind lacks that link.
+// What may be sent to a bench. Root and kind fields are bytes, and any byte may be sent. a and b are the roots for
+// links 0 and 1; a call is refused unless they are 255 exactly where the kind lacks that link.
 #[derive(Clone, Copy)]
 pub enum Call {
     // spends a and b, and fills d with a new cell

@@ -13,16 +13,20 @@ pub struct Wanting {
     pub root: u8,
 }
 
+// There are not as many places for answers as calls.
+#[derive(Clone, Copy)]
+pub struct NoPlace;
+
 // Why a bench refuses a call.
 #[derive(Clone, Copy, PartialEq, Eq, Debug)]
 pub enum BenchFault {
-    // a root field is not 0–15
+    // a root field is not 0–15, nor 255 where that is allowed
     NoSuchRoot(u8),
     // a or b is 255, or not 255, against the kind
     LinksUnfit,
-    // a root used is empty
+    // a root is empty when its turn to be used or spent comes
     RootEmpty(u8),
-    // a root filled is in use
+    // a root is in use when its turn to be filled comes
     RootInUse(u8),
     // the store's refusal
     Store(Wanting),
