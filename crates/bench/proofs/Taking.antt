@@ -11,6 +11,8 @@ use lib.Seq.{set-set, set-getD}
 use Rattle.std.proofs.shelf.Tests.{both-ways, eq-eqb, ne-eqb, and-parts}
 use Rattle.std.specs.declared.option.Option.{Option}
 use Rattle.std.specs.declared.option.Option.the-variants.{Some, None}
+use Rattle.store.specs.declared.hold.Links.{Links}
+use Rattle.store.specs.Interface.{on}
 use Rattle.store.specs.Numbers.{opt}
 use Rattle.store.specs.Rooted.{root-at}
 use Rattle.bench.specs.Machine.{spend, spent, taken}
@@ -144,3 +146,9 @@ module _ (base one two : List (Option ℕ)) (kind a b : ℕ) (x y : Option ℕ) 
     apart = parted-roots;
     whole = both-restored base one two a b x y e f g h;
   }
+
+-- what a refusal hands back can be set back
+pub record Backed (slots : List (Option ℕ)) (a b : ℕ) (l : Links) : Type 0 where
+  pub first : Back slots a (on (l .first))
+  pub second : Back slots b (on (l .second))
+  pub apart : isSome (on (l .first)) ≡ true → a ≡ b → ⊥

@@ -23,7 +23,7 @@ use Rattle.bench.specs.Step.{link-roots}
 use Rattle.bench.specs.Bench.{Answers, Back, put}
 use Rattle.bench.proofs.Facts.{asks, few-of}
 use Rattle.bench.proofs.Passes.{make-passes}
-use Rattle.bench.proofs.Taking.{Taken, links-taken}
+use Rattle.bench.proofs.Taking.{Taken, links-taken, Backed}
 use Rattle.bench.proofs.Replies.{make-replies, make-wants}
 use Rattle.bench.proofs.bench.Bench.make_cell.Needs as need
 
@@ -49,12 +49,6 @@ fill-requires g c κs =
     let k = links-taken slots (c .take-first .last .self .roots .slots) (c .take-second .last .self .roots .slots) (c .args .kind) (c .args .a) (c .args .b) (on (c .take-first .result)) (on (c .take-second .result))
     (c .take-first .ensures .emptied) (c .take-second .ensures .emptied) (c .take-first .ensures .given) (c .take-second .ensures .given) (p .spends) (p .fits) (p .link-0) (p .link-1) in
     record { root = p .there; empty = ap (λ (l : List (Option ℕ)). root-at l (c .args .d)) (k .slots) ∙ p .clear }
-
--- what a refusal hands back can be set back
-record Backed (slots : List (Option ℕ)) (a b : ℕ) (l : Links) : Type 0 where
-  first : Back slots a (on (l .first))
-  second : Back slots b (on (l .second))
-  apart : isSome (on (l .first)) ≡ true → a ≡ b → ⊥
 
 pub put-back-requires : need.put-back-requires
 put-back-requires g c κs =

@@ -24,7 +24,7 @@ use Rattle.bench.specs.Bench.{Answers, Back, put, cell-in}
 use Rattle.bench.proofs.Facts.{asks, few-of, not-none}
 use Rattle.bench.proofs.Passes.{Rebuild-passed, rebuild-passes}
 use Rattle.bench.proofs.Slots.{spend-none, spent-keeps}
-use Rattle.bench.proofs.Taking.{Taken, links-taken, from-field, restored}
+use Rattle.bench.proofs.Taking.{Taken, links-taken, from-field, restored, Backed}
 use Rattle.bench.proofs.Replies.{rebuild-replies, rebuild-wants}
 use Rattle.bench.proofs.bench.Bench.rebuild_cell.Needs as need
 
@@ -61,11 +61,6 @@ fill-requires g c κs =
     let k = taken-after slots (c .empty .last .self .slots) (c .take-first .last .self .roots .slots) (c .take-second .last .self .roots .slots) r (c .args .kind) (c .args .a) (c .args .b) (on (c .take-first .result)) (on (c .take-second .result))
     (c .in-Some .ensures tt .emptied) (c .take-first .ensures .emptied) (c .take-second .ensures .emptied) (c .take-first .ensures .given) (c .take-second .ensures .given) p in
     record { root = p .there; empty = ap (λ (l : List (Option ℕ)). root-at l r) (k .slots) ∙ spent-keeps (spend slots r) (link-roots (c .args .a) (c .args .b)) r (spend-none slots r) }
-
-record Backed (slots : List (Option ℕ)) (a b : ℕ) (l : Links) : Type 0 where
-  first : Back slots a (on (l .first))
-  second : Back slots b (on (l .second))
-  apart : isSome (on (l .first)) ≡ true → a ≡ b → ⊥
 
 pub put-back-requires : need.put-back-requires
 put-back-requires g c κs =
