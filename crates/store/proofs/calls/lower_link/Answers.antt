@@ -8,6 +8,6 @@ pub returns-in-Some : goal.returns-in-Some
 unfolding lowered_all
 returns-in-Some g c = c.lower.ensures ∙ sym (ap (λ (o : Option ℕ). lowered_all g.L.Lowering.lowered (heap c.args.table.now) (opt o)) c.in-Some.is)
 
-pub returns-in-default : goal.returns-in-default
+pub returns-in_default : goal.returns-in_default
 unfolding lowered_all
-returns-in-default g c = sym (ap (λ (o : Option ℕ). lowered_all g.L.Lowering.lowered (heap c.args.table.now) (opt o)) c.in-default.is)
+returns-in_default g c = sym (ap (λ (o : Option ℕ). lowered_all g.L.Lowering.lowered (heap c.args.table.now) (opt o)) c.in_default.is)

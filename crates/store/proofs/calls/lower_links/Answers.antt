@@ -8,18 +8,18 @@ use Rattle.store.specs.NumbersLemmas.{times_append}
 use Rattle.store.proofs.Steps.{lowers, lowered_more}
 use Rattle.store.proofs.calls.lower_links.Goals as goal
 
-pub lower-link-requires-2 : goal.lower-link-requires-2
-lower-link-requires-2 g c =
+pub lower_link-requires-2 : goal.lower_link-requires-2
+lower_link-requires-2 g c =
     let a = opt c.args.old.link0 in
     let b = opt c.args.old.link1 in
     let r = lowers g.L.Lowering.lowered g.met.L.Lowering.lawful a (heap c.args.table.now) c.requires.okay (λ d. omega (arith, c.requires.held d, times_append d a b)) in
     record {
-      okay = subst (λ (k : Heap). Okay k) (sym c.lower-link.ensures) r.0;
-      held = subst (λ (k : Heap). (d : ℕ) → times d b ≤ holds k.cells d) (sym c.lower-link.ensures) (λ d. omega (arith, r.1.held d, c.requires.held d, times_append d a b));
+      okay = subst (λ (k : Heap). Okay k) (sym c.lower_link.ensures) r.0;
+      held = subst (λ (k : Heap). (d : ℕ) → times d b ≤ holds k.cells d) (sym c.lower_link.ensures) (λ d. omega (arith, r.1.held d, c.requires.held d, times_append d a b));
     }
 
 pub returns : goal.returns
 returns g c =
-    c.lower-link-2.ensures
-    ∙ ap (λ (k : Heap). lowered_all g.L.Lowering.lowered k (opt c.args.old.link1)) c.lower-link.ensures
+    c.lower_link-2.ensures
+    ∙ ap (λ (k : Heap). lowered_all g.L.Lowering.lowered k (opt c.args.old.link1)) c.lower_link.ensures
     ∙ sym (lowered_more g.L.Lowering.lowered (opt c.args.old.link0) (opt c.args.old.link1) (heap c.args.table.now))

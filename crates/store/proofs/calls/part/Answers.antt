@@ -55,8 +55,8 @@ cell-old-requires g c = held_here c.requires.okay c.args.h.cell c.requires.held
 pub strip-requires : goal.strip-requires
 strip-requires g c = held_here c.requires.okay c.args.h.cell c.requires.held
 
-pub raise-link-requires : goal.raise-link-requires
-raise-link-requires g c =
+pub raise_link-requires : goal.raise_link-requires
+raise_link-requires g c =
     let r = subst (λ (x : Cell). Raisable (heap c.args.table.now) x.link0) (sym c.cell-old.ensures) (first c.requires.okay c.requires.few c.args.h.cell c.requires.held) in
     record { inside = r.inside; fits = r.fits }
 
@@ -68,15 +68,15 @@ module _ (h k l : Heap) (i : ℕ) (x : Cell) (e : x ≡ cell h i) (f : k ≡ rai
   raised_both : l ≡ raised_all k (opt x.link1) → l ≡ raised_all h (links_of (cell h i))
   raised_both g = g ∙ (λ j. raised_all (raised_first j) (opt (e j).link1)) ∙ sym (raised_more (opt (cell h i).link0) (opt (cell h i).link1) h)
 
-pub raise-link-requires-else-old-eq1 : goal.raise-link-requires-else-old-eq1
-raise-link-requires-else-old-eq1 g c =
+pub raise_link-requires-else-old-eq1 : goal.raise_link-requires-else-old-eq1
+raise_link-requires-else-old-eq1 g c =
     let h = heap c.args.table.now in
     let i = c.args.h.cell in
     let e = c.cell-old.ensures in
-    let f = raised_first h (heap c.raise-link.new.table) h i c.cell-old.result e c.raise-link.ensures in
+    let f = raised_first h (heap c.raise_link.new.table) h i c.cell-old.result e c.raise_link.ensures in
     let s = second c.requires.okay c.requires.few i c.requires.held in
     let q = subst (λ (k : Heap). Raisable k (cell h i).link1) (sym f) s in
-    let r = subst (λ (x : Cell). Raisable (heap c.raise-link.new.table) x.link1) (sym e) q in
+    let r = subst (λ (x : Cell). Raisable (heap c.raise_link.new.table) x.link1) (sym e) q in
     record { inside = r.inside; fits = r.fits }
 
 abbrev seen : Table → Heap
@@ -91,7 +91,7 @@ lower-requires g c =
     let r : Last (heap c.if-old-eq1.table) i = elim c.if-old-eq1.branch [
       | then-old-eq1 w ↦ subst (λ (k : Heap). Last k i) (sym (ap seen w.table-is ∙ w.strip.ensures.table)) (stripped_last o c.requires.few i c.requires.held)
       | else-old-eq1 w ↦ subst (λ (k : Heap). Last k i)
-          (sym (ap seen w.table-is ∙ raised_both h (heap w.raise-link.new.table) (heap w.raise-link-else-old-eq1.new.table) i c.cell-old.result c.cell-old.ensures w.raise-link.ensures w.raise-link-else-old-eq1.ensures))
+          (sym (ap seen w.table-is ∙ raised_both h (heap w.raise_link.new.table) (heap w.raise_link-else-old-eq1.new.table) i c.cell-old.result c.cell-old.ensures w.raise_link.ensures w.raise_link-else-old-eq1.ensures))
           (raised_last o c.requires.few i c.requires.held)
     ] in
     record { okay = r.okay; held = r.held }
@@ -110,7 +110,7 @@ returns g c =
       | then-old-eq1 w ↦ ap (λ (k : Heap). lower k i) (ap seen w.table-is ∙ w.strip.ensures.table)
           ∙ sym (cond-true (eqb n 1) a b (eq-eqb n 1 (ap (λ (y : Cell). y.count) (sym e) ∙ w.if-old-eq1.true)))
       | else-old-eq1 w ↦ ap (λ (k : Heap). lower k i)
-          (ap seen w.table-is ∙ raised_both h (heap w.raise-link.new.table) (heap w.raise-link-else-old-eq1.new.table) i c.cell-old.result e w.raise-link.ensures w.raise-link-else-old-eq1.ensures)
+          (ap seen w.table-is ∙ raised_both h (heap w.raise_link.new.table) (heap w.raise_link-else-old-eq1.new.table) i c.cell-old.result e w.raise_link.ensures w.raise_link-else-old-eq1.ensures)
           ∙ sym (cond-false (eqb n 1) a b (ne_eqb n 1 (λ one. w.if-old-eq1.false (ap (λ (y : Cell). y.count) e ∙ one))))
     ] in
     record {

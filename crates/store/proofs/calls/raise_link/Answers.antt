@@ -15,6 +15,6 @@ pub returns-in-Some : goal.returns-in-Some
 unfolding raised_all
 returns-in-Some c = c.raise.ensures ∙ sym (ap (λ (o : Option ℕ). raised_all (heap c.args.table.now) (opt o)) c.in-Some.is)
 
-pub returns-in-default : goal.returns-in-default
+pub returns-in_default : goal.returns-in_default
 unfolding raised_all
-returns-in-default c = sym (ap (λ (o : Option ℕ). raised_all (heap c.args.table.now) (opt o)) c.in-default.is)
+returns-in_default c = sym (ap (λ (o : Option ℕ). raised_all (heap c.args.table.now) (opt o)) c.in_default.is)

@@ -30,7 +30,7 @@ pub lower-requires : goal.lower-requires
 lower-requires g c =
     let h = heap c.args.table.now in
     let i = c.args.old.cell in
-    let e = c.make-in-made.ensures.table ∙ ap (λ z. made_in g.L.Lowering.lowered h (asked_for c.args.kind z c.args.links) (Some c.in-Some.c)) (to_z-of_z c.ranges.value) in
+    let e = c.make_in-made.ensures.table ∙ ap (λ z. made_in g.L.Lowering.lowered h (asked_for c.args.kind z c.args.links) (Some c.in-Some.c)) (to_z-of_z c.ranges.value) in
     let x = asked_for c.args.kind c.args.value c.args.links in
     let b = make_built g.L.Lowering.lowered g.met.L.Lowering.lawful c.requires.okay x (fits_length c.args.kind (on c.args.links.first) (on c.args.links.second) c.requires.fits) c.in-Some.c c.in-Some.is (λ d. omega (arith, c.requires.spare d)) in
     record {
@@ -47,10 +47,10 @@ returns-in-Some g c =
     let lower = g.L.Lowering.lowered in
     let more : (cell h i).count ≡ 1 → ⊥ = λ one. c.if-cell-eq1.false (ap (λ (y : Cell). y.count) c.cell.ensures ∙ one) in
     record {
-      table = c.lower.ensures ∙ ap (λ (k : Heap). lower k i) (c.make-in-made.ensures.table ∙ ap (λ z. made_in lower h (asked_for c.args.kind z c.args.links) (Some c.in-Some.c)) (to_z-of_z c.ranges.value))
+      table = c.lower.ensures ∙ ap (λ (k : Heap). lower k i) (c.make_in-made.ensures.table ∙ ap (λ z. made_in lower h (asked_for c.args.kind z c.args.links) (Some c.in-Some.c)) (to_z-of_z c.ranges.value))
           ∙ sym (ap (λ (o : Option ℕ). made_beside lower h i x o) c.in-Some.is)
           ∙ sym (cond-false (eqb (cell h i).count 1) (rewritten lower h i x) (made_beside lower h i x h.free) (ne_eqb (cell h i).count 1 more));
-      answer = inr (more, c.in-Some.is ∙ ap (λ n. Some n) (sym c.make-in-made.ensures.given));
+      answer = inr (more, c.in-Some.is ∙ ap (λ n. Some n) (sym c.make_in-made.ensures.given));
     }
 
 pub returns-in-None : goal.returns-in-None

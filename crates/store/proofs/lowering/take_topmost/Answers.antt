@@ -39,8 +39,8 @@ shed-old-requires c =
     let t = topmost c.requires in
     shed_here h c.args.top t.below t.listed t.chain t.free t.sound
 
-pub sink-link-pile-requires : goal.sink-link-pile-requires
-sink-link-pile-requires c =
+pub sink_link-pile-requires : goal.sink_link-pile-requires
+sink_link-pile-requires c =
     let h = heap c.args.table.now in
     let r = subst (λ (o : Cell). Halfway (shed h c.args.top) o.next o.link0) (sym c.shed-old.ensures.old) (first h c.args.top (topmost c.requires)) in
     let q = subst (λ (k : Heap). Halfway k c.shed-old.result.next c.shed-old.result.link0) (sym c.shed-old.ensures.table) r in
@@ -54,30 +54,30 @@ module _ (h : Heap) (c : ℕ) (k l : Heap) (o : Cell) (p : Option ℕ) (e : k �
   half_pile : p ≡ front_all (shed h c) (cell h c).next (opt (cell h c).link0)
   half_pile = q ∙ ap (λ (x : Heap). front_all x o.next (opt o.link0)) e ∙ ap (λ (x : Cell). front_all (shed h c) x.next (opt x.link0)) f
 
-pub sink-link-requires : goal.sink-link-requires
-sink-link-requires c =
+pub sink_link-requires : goal.sink_link-requires
+sink_link-requires c =
     let h = heap c.args.table.now in
     let i = c.args.top in
-    let a = half_table h i (heap c.shed-old.new.self) (heap c.sink-link-pile.new.table) c.shed-old.result c.sink-link-pile.result c.shed-old.ensures.table c.shed-old.ensures.old c.sink-link-pile.ensures.table c.sink-link-pile.ensures.pile in
-    let b = half_pile h i (heap c.shed-old.new.self) (heap c.sink-link-pile.new.table) c.shed-old.result c.sink-link-pile.result c.shed-old.ensures.table c.shed-old.ensures.old c.sink-link-pile.ensures.table c.sink-link-pile.ensures.pile in
+    let a = half_table h i (heap c.shed-old.new.self) (heap c.sink_link-pile.new.table) c.shed-old.result c.sink_link-pile.result c.shed-old.ensures.table c.shed-old.ensures.old c.sink_link-pile.ensures.table c.sink_link-pile.ensures.pile in
+    let b = half_pile h i (heap c.shed-old.new.self) (heap c.sink_link-pile.new.table) c.shed-old.result c.sink_link-pile.result c.shed-old.ensures.table c.shed-old.ensures.old c.sink_link-pile.ensures.table c.sink_link-pile.ensures.pile in
     let s = second h i (topmost c.requires) in
     let r = subst (λ (k : Heap). Halfway k (front_all (shed h i) (cell h i).next (opt (cell h i).link0)) (cell h i).link1) (sym a) s in
-    let q = subst (λ (p : Option ℕ). Halfway (heap c.sink-link-pile.new.table) p (cell h i).link1) (sym b) r in
-    let w = subst (λ (o : Cell). Halfway (heap c.sink-link-pile.new.table) c.sink-link-pile.result o.link1) (sym c.shed-old.ensures.old) q in
+    let q = subst (λ (p : Option ℕ). Halfway (heap c.sink_link-pile.new.table) p (cell h i).link1) (sym b) r in
+    let w = subst (λ (o : Cell). Halfway (heap c.sink_link-pile.new.table) c.sink_link-pile.result o.link1) (sym c.shed-old.ensures.old) q in
     record { piling = w.piling; held = w.held }
 
 pub returns : goal.returns
 returns c =
     let h = heap c.args.table.now in
     let i = c.args.top in
-    let a = half_table h i (heap c.shed-old.new.self) (heap c.sink-link-pile.new.table) c.shed-old.result c.sink-link-pile.result c.shed-old.ensures.table c.shed-old.ensures.old c.sink-link-pile.ensures.table c.sink-link-pile.ensures.pile in
-    let b = half_pile h i (heap c.shed-old.new.self) (heap c.sink-link-pile.new.table) c.shed-old.result c.sink-link-pile.result c.shed-old.ensures.table c.shed-old.ensures.old c.sink-link-pile.ensures.table c.sink-link-pile.ensures.pile in
-    let k = heap c.sink-link-pile.new.table in
-    let p = c.sink-link-pile.result in
+    let a = half_table h i (heap c.shed-old.new.self) (heap c.sink_link-pile.new.table) c.shed-old.result c.sink_link-pile.result c.shed-old.ensures.table c.shed-old.ensures.old c.sink_link-pile.ensures.table c.sink_link-pile.ensures.pile in
+    let b = half_pile h i (heap c.shed-old.new.self) (heap c.sink_link-pile.new.table) c.shed-old.result c.sink_link-pile.result c.shed-old.ensures.table c.shed-old.ensures.old c.sink_link-pile.ensures.table c.sink_link-pile.ensures.pile in
+    let k = heap c.sink_link-pile.new.table in
+    let p = c.sink_link-pile.result in
     let x = c.shed-old.result.link1 in
     let y : x ≡ (cell h i).link1 = ap (λ (o : Cell). o.link1) c.shed-old.ensures.old in
     let z = turns h i (topmost c.requires) in
     record {
-      table = c.sink-link.ensures.table ∙ (λ j. sunk_all (a j) (b j) (opt (y j))) ∙ sym z.0;
-      pile = c.sink-link.ensures.pile ∙ (λ j. front_all (a j) (b j) (opt (y j))) ∙ sym z.1;
+      table = c.sink_link.ensures.table ∙ (λ j. sunk_all (a j) (b j) (opt (y j))) ∙ sym z.0;
+      pile = c.sink_link.ensures.pile ∙ (λ j. front_all (a j) (b j) (opt (y j))) ∙ sym z.1;
     }

@@ -8,7 +8,7 @@ use Rattle.store.proofs.deferring.Deferring.set_up.Goals as goal
 
 pub returns : goal.returns
 returns c =
-    let r = c.in-ok-table.ensures in
+    let r = c.in_ok-table.ensures in
     let n = length c.args.cells.now in (
       r.0,
       r.1,

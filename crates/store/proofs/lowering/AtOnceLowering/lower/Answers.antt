@@ -40,14 +40,14 @@ module _ (h k : Heap) (pile next : Option ℕ) (top : ℕ) (is : pile ≡ Some t
   further (suc n) end l q = (n, omega (arith, lighter), (λ j. drained n (e j) (f j)) ∙ sym (ap (drained (suc n) h) is) ∙ q)
 
 pub emptying-smaller : goal.emptying-smaller
-emptying-smaller c = lighter (heap c.emptying.table) (heap c.take-topmost-pile.new.table) c.emptying.pile c.take-topmost-pile.result c.in-Some.top c.in-Some.is c.emptying.invariant.0 c.take-topmost-pile.ensures.table c.take-topmost-pile.ensures.pile
+emptying-smaller c = lighter (heap c.emptying.table) (heap c.take_topmost-pile.new.table) c.emptying.pile c.take_topmost-pile.result c.in-Some.top c.in-Some.is c.emptying.invariant.0 c.take_topmost-pile.ensures.table c.take_topmost-pile.ensures.pile
 
 pub emptying-preserved : goal.emptying-preserved
 emptying-preserved c = (
-  on (heap c.emptying.table) (heap c.take-topmost-pile.new.table) c.emptying.pile c.take-topmost-pile.result c.in-Some.top c.in-Some.is c.emptying.invariant.0 c.take-topmost-pile.ensures.table c.take-topmost-pile.ensures.pile,
+  on (heap c.emptying.table) (heap c.take_topmost-pile.new.table) c.emptying.pile c.take_topmost-pile.result c.in-Some.top c.in-Some.is c.emptying.invariant.0 c.take_topmost-pile.ensures.table c.take_topmost-pile.ensures.pile,
   λ all l.
       let r = c.emptying.invariant.1 all l in
-      further (heap c.emptying.table) (heap c.take-topmost-pile.new.table) c.emptying.pile c.take-topmost-pile.result c.in-Some.top c.in-Some.is c.emptying.invariant.0 c.take-topmost-pile.ensures.table c.take-topmost-pile.ensures.pile r.0 _ r.1 r.2,
+      further (heap c.emptying.table) (heap c.take_topmost-pile.new.table) c.emptying.pile c.take_topmost-pile.result c.in-Some.top c.in-Some.is c.emptying.invariant.0 c.take_topmost-pile.ensures.table c.take_topmost-pile.ensures.pile r.0 _ r.1 r.2,
 )
 
 pub returns : goal.returns
@@ -62,4 +62,4 @@ returns c =
     let b = c.sink-pile.ensures.front in
     let r = c.emptying.invariant.1 (total h.cells) (let q : load (heap c.sink-pile.new.self) c.sink-pile.result ≡ load (sunk h i None) (front h i None) = (λ j. load (a j) (b j)) in omega (arith, l, q)) in
     let n = heap c.emptying.table in
-    sym (drained_none r.0 n) ∙ sym (ap (drained r.0 n) c.in-default.is) ∙ r.2 ∙ (λ j. drained (total h.cells) (a j) (b j))
+    sym (drained_none r.0 n) ∙ sym (ap (drained r.0 n) c.in_default.is) ∙ r.2 ∙ (λ j. drained (total h.cells) (a j) (b j))

@@ -19,7 +19,7 @@ each-preserved c =
       length-set used i _ ∙ long,
       below_more _ _
           (λ k h. get_or-set_other used i k _ false (λ e. omega arith) ∙ c.each.invariant.1 k h)
-          (get_or-set_same used i _ false lt ∙ c.is-some.ensures),
+          (get_or-set_same used i _ false lt ∙ c.is_some.ensures),
     )
 
 pub returns : goal.returns
