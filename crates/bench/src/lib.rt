@@ -1,4 +1,6 @@
 // The bench: a node machine, and that a store's meaning alone is enough to agree with it. The contract of each law is a theorem.
+#![tactic(auto)]
+
 pub mod bench;
 pub mod call;
 pub mod fault;

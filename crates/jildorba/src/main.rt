@@ -1,4 +1,6 @@
 // Reads a script, from the file that its argument names or else from standard input, and prints the answers.
+#![tactic(auto)]
+
 mod desks;
 mod drive;
 mod hex;

@@ -1,4 +1,6 @@
 // Rules as bytes: how they are read, and the check that passes exactly those that the sheet allows.
+#![tactic(auto)]
+
 pub mod check;
 pub mod fault;
 pub mod flags;

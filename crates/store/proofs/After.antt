@@ -1,16 +1,16 @@
 -- The table after any call is sound; in the eager store a cell of count 0 is wiped then.
-use Rattle.std.proofs.Common.{◌≡◌, ℕ, zero, suc, ◌+◌, ◌-◌, ◌*◌, ◌<◌, ◌≤◌, eqb, ◌⊎◌, List, [], ◌∷◌, ◌++◌, length, set, Some, None, Option, sym, refl, ap, ◌∙◌, subst, inl, inr, ⊎_elim, arith, length-set}
+use Rattle.std.proofs.Common.{◌≡◌, ℕ, ◌<◌, ◌≤◌, List, [], ◌∷◌, length, set, Some, None, Option, sym, refl, ap, ◌∙◌, ⊎_elim, arith, length-set}
 use Rattle.std.proofs.lemmas.Bool.{cases_eq, eq-eqb, ne_eqb}
 use Rattle.store.specs.declared.cell.Cell.{Cell}
-use Rattle.store.specs.Numbers.{hit, times, In}
+use Rattle.store.specs.Numbers.{times, In}
 use Rattle.store.specs.Meaning.{Node, arity, less, Spare, Asked, making, copying, releasing, parting, rebuilding}
-use Rattle.store.specs.Cells.{empty, at, links_of, inlinks, holds, meaning}
-use Rattle.store.specs.Heap.{Heap, cell, put, raised, raised_all, claimed, stripped, written, filled, lowered_all, made_in, rewritten, made_beside, rebuilt, parted, settled, after}
-use Rattle.store.specs.Sound.{Sound, Okay, Lowered, Lawful, Wiped, Clean}
+use Rattle.store.specs.Cells.{empty, links_of, holds, meaning}
+use Rattle.store.specs.Heap.{Heap, cell, raised, raised_all, claimed, stripped, written, filled, lowered_all, made_in, rewritten, made_beside, rebuilt, parted, settled, after}
+use Rattle.store.specs.Sound.{Okay, Lawful, Clean}
 use Rattle.store.specs.NumbersLemmas.{hit_self}
 use Rattle.store.specs.CellsLemmas.{at_set, inlinks_at, counted_inside}
 use Rattle.store.specs.Pile.{settles, eagers}
-use Rattle.store.proofs.Reach.{First, first_free}
+use Rattle.store.proofs.Reach.{first_free}
 use Rattle.store.proofs.Steps.{lowers, first_here, held_here, Lowerable, claim_lowerable, strip_lowerable, strip, strip_held, raises}
 use Rattle.store.proofs.Meets.{make_built, rewrite_built, beside_built, part_parted, copy_copied}
 

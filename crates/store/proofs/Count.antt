@@ -1,7 +1,7 @@
 -- A list of numbers below n, none twice, has all of them exactly when it is n long.
 use Rattle.std.proofs.Common.{◌≡◌, ℕ, zero, suc, ◌+◌, ◌<◌, ◌≤◌, ◌↔◌, List, [], ◌∷◌, length, refl, ap, ⊎_elim, arith}
 use Rattle.std.proofs.lemmas.Bool.{cases_eq}
-use Rattle.store.specs.Numbers.{hit, times, In}
+use Rattle.store.specs.Numbers.{times, In}
 use Rattle.store.specs.NumbersLemmas.{hit_cases, hit_self}
 
 -- how many places of the list have a number below n

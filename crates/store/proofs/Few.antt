@@ -1,5 +1,5 @@
 -- In the deferring store a call changes at most two links, the cell and one other cell.
-use Rattle.std.proofs.Common.{◌≡◌, ℕ, zero, suc, ◌+◌, ◌-◌, ◌*◌, ◌<◌, ◌≤◌, eqb, ◌⊎◌, List, [], ◌∷◌, ◌++◌, length, set, Some, None, Option, sym, refl, ap, ◌∙◌, subst, inl, inr, ⊎_elim, arith, length-append}
+use Rattle.std.proofs.Common.{◌≡◌, ℕ, ◌+◌, ◌≤◌, List, [], ◌∷◌, length, set, Some, None, Option, refl, ap, ◌∙◌, ⊎_elim, arith, length-append}
 use Rattle.std.proofs.lemmas.Bool.{cases_eq, eq-eqb, ne_eqb}
 use Rattle.store.specs.declared.cell.Cell.{Cell}
 use Rattle.store.specs.Numbers.{hit, times, opt}
@@ -7,7 +7,7 @@ use Rattle.store.specs.Meaning.{Node, most_links, Asked, making, copying, releas
 use Rattle.store.specs.Cells.{at, links_of}
 use Rattle.store.specs.Heap.{Heap, cell, raised, raised_all, claimed, stripped, filled, lowered_all, made_in, rewritten, made_beside, rebuilt, parted, deferred, after}
 use Rattle.store.specs.Sound.{Changed}
-use Rattle.store.specs.NumbersLemmas.{hit_self, times_append}
+use Rattle.store.specs.NumbersLemmas.{hit_self}
 use Rattle.store.specs.CellsLemmas.{at_other}
 
 -- all cells but those of the list are as before

@@ -1,14 +1,13 @@
 -- A table at set-up is sound, and no hold is out.
-use Rattle.std.proofs.Common.{◌≡◌, ℕ, zero, suc, ◌+◌, ◌-◌, ◌*◌, ◌<◌, ◌≤◌, Bool, true, false, cond, eqb, ◌⊎◌, List, [], ◌∷◌, ◌++◌, length, get_or, Some, None, Option, sym, refl, ap, ◌∙◌, subst, inl, inr, ⊎_elim, add-one, arith}
-use Rattle.std.proofs.lemmas.Bool.{cases_lt, cases_eq, eq-eqb, ne_eqb}
+use Rattle.std.proofs.Common.{◌≡◌, ℕ, zero, suc, ◌+◌, ◌<◌, ◌≤◌, cond, eqb, ◌⊎◌, List, [], ◌∷◌, length, Some, None, Option, sym, refl, ap, ◌∙◌, subst, inl, inr, ⊎_elim, add-one, arith}
+use Rattle.std.proofs.lemmas.Bool.{cases_lt, eq-eqb, ne_eqb}
 use Rattle.store.specs.declared.cell.Cell.{Cell}
-use Rattle.store.specs.Numbers.{hit, times, In}
+use Rattle.store.specs.Numbers.{times}
 use Rattle.store.specs.Meaning.{Out}
-use Rattle.store.specs.Cells.{empty, at, links_of, inlinks, holds, meaning}
-use Rattle.store.specs.Heap.{Heap, cell}
+use Rattle.store.specs.Cells.{empty, at, links_of, inlinks, meaning}
 use Rattle.store.specs.Setup.{fresh_cell, fresh_from, fresh}
-use Rattle.store.specs.Sound.{Fitting, Sound, Chain, Okay, Wiped, Clean}
-use Rattle.store.specs.NumbersLemmas.{hit_cases, hit_self, hit_other}
+use Rattle.store.specs.Sound.{Sound, Chain, Okay, Clean}
+use Rattle.store.specs.NumbersLemmas.{hit_cases, hit_other}
 use Rattle.store.specs.CellsLemmas.{at_past, inlinks_from}
 
 pub fresh_length : (n i k : ℕ) → length (fresh_from n i k) ≡ k

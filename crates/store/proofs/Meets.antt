@@ -1,18 +1,18 @@
 -- Each call does to the meaning what the interface asks, however cells are lowered.
-use Rattle.std.proofs.Common.{◌≡◌, ℕ, zero, suc, ◌+◌, ◌-◌, ◌*◌, ◌<◌, ◌≤◌, cond, eqb, ◌⊎◌, List, [], ◌∷◌, ◌++◌, length, set, Some, None, Option, sym, refl, ap, ◌∙◌, subst, inl, inr, ⊎_elim, arith, length-set}
-use Rattle.std.proofs.lemmas.Bool.{cases_lt, cases_eq, eq-eqb, ne_eqb, leb-true, leb-false}
+use Rattle.std.proofs.Common.{◌≡◌, ℕ, ◌+◌, ◌-◌, ◌<◌, ◌≤◌, List, [], ◌∷◌, ◌++◌, length, Some, None, Option, sym, refl, ap, ◌∙◌, subst, ⊎_elim, arith, length-set}
+use Rattle.std.proofs.lemmas.Bool.{cases_eq, eq-eqb, ne_eqb, leb-true, leb-false}
 use Rattle.store.specs.declared.cell.Cell.{Cell}
 use Rattle.store.specs.Numbers.{hit, times, In, opt}
-use Rattle.store.specs.Meaning.{Node, arity, Meaning, Reached, by_hold, by_link, less, Moved, Made, Full, Spare}
-use Rattle.store.specs.Cells.{empty, at, links_of, node_of, inlinks, holds, meaning}
-use Rattle.store.specs.Heap.{Heap, cell, put, raised, raised_all, claimed, stripped, written, filled, lowered_all, made_in, rewritten, made_beside, rebuilt, parted}
-use Rattle.store.specs.Sound.{Fitting, Sound, Chain, Okay, Lowered, Lawful}
-use Rattle.store.specs.NumbersLemmas.{hit_cases, hit_self, hit_other, times_append}
-use Rattle.store.specs.CellsLemmas.{at_set, at_self, at_other, inlinks_set, inlinks_at, counted_inside}
+use Rattle.store.specs.Meaning.{Node, arity, Reached, by_hold, by_link, less, Moved, Made, Full, Spare}
+use Rattle.store.specs.Cells.{empty, links_of, node_of, inlinks, holds, meaning}
+use Rattle.store.specs.Heap.{Heap, cell, raised, raised_all, claimed, stripped, written, filled, lowered_all, made_in, rewritten, made_beside, parted}
+use Rattle.store.specs.Sound.{Fitting, Sound, Okay, Lowered, Lawful}
+use Rattle.store.specs.NumbersLemmas.{hit_cases, hit_self, hit_other}
+use Rattle.store.specs.CellsLemmas.{at_self, at_other, inlinks_set, inlinks_at, counted_inside}
 use Rattle.store.specs.Writes.{fill, fill_held, written_links, arity_most}
 use Rattle.store.specs.Sinks.{chain_kept}
-use Rattle.store.proofs.Reach.{less_reached, still_reached, reached_counted, all_reached, none_free, First, first_free}
-use Rattle.store.proofs.Steps.{lowers, first_count, first_here, first_alone, claim, claim_held, held_here, strip, strip_held, Raised, raise, raise_raised, raises}
+use Rattle.store.proofs.Reach.{reached_counted, all_reached, none_free, First, first_free}
+use Rattle.store.proofs.Steps.{lowers, first_here, first_alone, claim, claim_held, held_here, strip, strip_held, Raised, raise, raise_raised, raises}
 
 -- a cell c is given with a content; base are the holds that are out besides, before the links' holds are spent
 pub record Built (h k : Heap) (base : ℕ → ℕ) (node : Node) (c : ℕ) : Type 0 where

@@ -1,10 +1,9 @@
 -- What is reached in a sound table.
-use Rattle.std.proofs.Common.{◌≡◌, ℕ, zero, suc, ◌+◌, ◌-◌, ◌*◌, ◌<◌, ◌≤◌, ◌⊎◌, List, [], ◌∷◌, ◌++◌, length, Some, None, Option, sym, refl, ap, ◌∙◌, subst, inl, inr, ⊎_elim, arith}
-use Rattle.std.proofs.lemmas.Bool.{cases_lt, cases_eq}
+use Rattle.std.proofs.Common.{◌≡◌, ℕ, zero, suc, ◌+◌, ◌<◌, ◌≤◌, List, [], ◌∷◌, length, Some, None, sym, ◌∙◌, subst, ⊎_elim, arith}
+use Rattle.std.proofs.lemmas.Bool.{cases_lt}
 use Rattle.store.specs.declared.cell.Cell.{Cell}
-use Rattle.store.specs.Numbers.{hit, times, In}
 use Rattle.store.specs.Meaning.{Meaning, Reached, by_hold, by_link, less, Full, Few}
-use Rattle.store.specs.Cells.{at, links_of, node_of, inlinks, holds, meaning}
+use Rattle.store.specs.Cells.{at, node_of, inlinks, meaning}
 use Rattle.store.specs.Heap.{Heap, cell}
 use Rattle.store.specs.Sound.{Sound, Chain, Okay}
 use Rattle.store.specs.NumbersLemmas.{hit_cases, times_length}

@@ -1,15 +1,14 @@
 -- The steps that calls are made of.
-use Rattle.std.proofs.Common.{◌≡◌, ℕ, zero, suc, ◌+◌, ◌-◌, ◌*◌, ◌<◌, ◌≤◌, ◌⊎◌, List, [], ◌∷◌, ◌++◌, length, set, Some, None, Option, sym, refl, ap, ◌∙◌, subst, inl, inr, ⊎_elim, arith, length-set}
-use Rattle.std.proofs.lemmas.Bool.{cases_lt, cases_eq}
+use Rattle.std.proofs.Common.{◌≡◌, ℕ, ◌+◌, ◌<◌, ◌≤◌, List, [], ◌∷◌, ◌++◌, length, None, sym, refl, ap, ◌∙◌, subst, ⊎_elim, arith, length-set}
+use Rattle.std.proofs.lemmas.Bool.{cases_lt}
 use Rattle.store.specs.declared.cell.Cell.{Cell}
 use Rattle.store.specs.Numbers.{hit, times, In}
-use Rattle.store.specs.Meaning.{Node, arity}
-use Rattle.store.specs.Cells.{empty, at, links_of, node_of, inlinks, holds, meaning}
-use Rattle.store.specs.Heap.{Heap, cell, put, recounted, raised, raised_all, claimed, stripped, written, filled, lowered_all}
-use Rattle.store.specs.Sound.{Sound, Chain, Okay, Lowered, Lawful}
-use Rattle.store.specs.NumbersLemmas.{hit_cases, hit_self, hit_other, times_append}
-use Rattle.store.specs.CellsLemmas.{at_set, at_self, at_other, inlinks_set, inlinks_at, counted_inside}
-use Rattle.store.specs.Writes.{recount, recount_held, clear, clear_held, fill, fill_held, written_links}
+use Rattle.store.specs.Cells.{empty, at, links_of, node_of, inlinks, holds}
+use Rattle.store.specs.Heap.{Heap, cell, recounted, raised, raised_all, claimed, stripped, lowered_all}
+use Rattle.store.specs.Sound.{Okay, Lowered, Lawful}
+use Rattle.store.specs.NumbersLemmas.{hit_self, hit_other}
+use Rattle.store.specs.CellsLemmas.{at_set, counted_inside}
+use Rattle.store.specs.Writes.{recount, recount_held, clear, clear_held}
 use Rattle.store.specs.Sinks.{chain_kept}
 use Rattle.store.specs.Pile.{lowered_none, lowered_then}
 use Rattle.store.proofs.Reach.{First}

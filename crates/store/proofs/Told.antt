@@ -1,13 +1,11 @@
 -- A store that stands on the table of counted cells answers as the interface asks.
-use Rattle.std.proofs.Common.{◌≡◌, ℕ, zero, suc, ◌+◌, ◌-◌, ◌*◌, ◌<◌, ◌≤◌, false, eqb, ◌⊎◌, List, [], ◌∷◌, ◌++◌, length, ℤ, is_some, Some, None, Ok, Err, Option, Result, sym, refl, ap, ◌∙◌, subst, inl, inr, ⊎_elim, arith}
-use Rattle.std.proofs.lemmas.Bool.{cases_eq, eq-eqb, ne_eqb, cond-true, cond-false, leb-false, lt-leb}
+use Rattle.std.proofs.Common.{◌≡◌, ℕ, ◌+◌, ◌<◌, false, eqb, List, length, ℤ, is_some, None, Ok, Err, Option, Result, sym, refl, ap, ◌∙◌, subst, ⊎_elim, arith}
+use Rattle.std.proofs.lemmas.Bool.{eq-eqb, ne_eqb, cond-true, cond-false, leb-false, lt-leb}
 use Rattle.store.specs.declared.cell.Cell.{Cell}
 use Rattle.store.specs.declared.hold.Hold.{Hold}
 use Rattle.store.specs.declared.hold.Links.{Links}
 use Rattle.store.specs.declared.fault.Refused.{Refused}
 use Rattle.store.specs.declared.fault.RefusedRebuild.{RefusedRebuild}
-use Rattle.store.specs.declared.fault.StoreFault.TheVariants.{NoCell}
-use Rattle.store.specs.Numbers.{hit, times, In, opt, item}
 use Rattle.store.specs.Meaning.{Node, arity, Meaning, Reached, less, Moved, Unchanged, Made, Full, Spare, most_links, Asked, making, rebuilding}
 use Rattle.store.specs.Cells.{links_of, holds, meaning}
 use Rattle.store.specs.Heap.{Heap, cell, made_in, rewritten, made_beside, rebuilt, deferred, settled, after}

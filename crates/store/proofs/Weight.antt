@@ -1,14 +1,14 @@
 -- What falls with each turn of the pile: the counts, and how many cells wait.
-use Rattle.std.proofs.Common.{◌≡◌, ℕ, zero, suc, ◌+◌, ◌-◌, ◌*◌, ◌<◌, ◌≤◌, ◌⊎◌, List, [], ◌∷◌, ◌++◌, length, Some, None, Option, sym, refl, ap, ◌∙◌, subst, inl, inr, ⊎_elim, arith, length-append}
-use Rattle.std.proofs.lemmas.Bool.{cases_lt, cases_eq}
+use Rattle.std.proofs.Common.{◌≡◌, ℕ, zero, suc, ◌+◌, ◌<◌, ◌≤◌, List, [], ◌∷◌, length, Some, None, Option, sym, refl, ap, ⊎_elim, arith, length-append}
+use Rattle.std.proofs.lemmas.Bool.{cases_lt}
 use Rattle.store.specs.declared.cell.Cell.{Cell}
-use Rattle.store.specs.Numbers.{hit, times, In}
-use Rattle.store.specs.Cells.{at, links_of, total}
-use Rattle.store.specs.Heap.{Heap, cell, sunk_all, front_all, shed, turned, turned_pile, drained}
+use Rattle.store.specs.Numbers.{times, In}
+use Rattle.store.specs.Cells.{at, total}
+use Rattle.store.specs.Heap.{Heap, turned, turned_pile, drained}
 use Rattle.store.specs.Sound.{Sound, Chain, Piling}
 use Rattle.store.specs.Plain.{walked}
 use Rattle.store.proofs.Count.{length_most}
-use Rattle.store.specs.Pile.{weight, Top, topmost, turn, none_some}
+use Rattle.store.specs.Pile.{weight, topmost, turn, none_some}
 
 -- a chain that is not longer than the walk is what is walked
 pub walked_chain : (cs : List ℕ) (k : ℕ) (cells : List Cell) (head : Option ℕ) → Chain cells head cs → length cs ≤ k → walked k cells head ≡ cs

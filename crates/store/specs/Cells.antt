@@ -1,5 +1,5 @@
 -- A table of counted cells, and how it is read.
-use Rattle.std.specs.Prelude.{ℕ, ◌+◌, ◌-◌, List, [], ◌∷◌, ◌++◌, length, pos, Some, None, Option, slice_index_or}
+use Rattle.std.specs.Prelude.{ℕ, ◌+◌, ◌-◌, List, [], ◌∷◌, ◌++◌, length, pos, None, Option, slice_index_or}
 use Rattle.store.specs.declared.cell.Cell.{Cell}
 use Rattle.store.specs.Numbers.{times, opt}
 use Rattle.store.specs.Meaning.{Node, Meaning}

@@ -1,11 +1,11 @@
 -- One cell of a table is written; the links that lead to a cell.
-use Rattle.std.specs.Prelude.{◌≡◌, ℕ, zero, suc, ◌+◌, ◌-◌, ◌*◌, ◌<◌, ◌≤◌, ◌⊎◌, List, [], ◌∷◌, ◌++◌, length, Some, None, Option, ◌≢◌, slice_set, refl}
-use Rattle.std.proofs.Common.{sym, ap, subst, ◌∙◌, inl, inr, ⊎_elim, arith, length-set, get_or-set_same, get_or-set_other}
+use Rattle.std.specs.Prelude.{◌≡◌, ℕ, zero, suc, ◌+◌, ◌*◌, ◌<◌, ◌≤◌, ◌⊎◌, List, [], ◌∷◌, length, Some, None, Option, ◌≢◌, slice_set}
+use Rattle.std.proofs.Common.{ap, inl, inr, ⊎_elim, arith, get_or-set_same, get_or-set_other}
 use Rattle.std.proofs.lemmas.List.{get_or_past}
 use Rattle.std.proofs.lemmas.Bool.{cases_lt, cases_eq}
 use Rattle.store.specs.declared.cell.Cell.{Cell}
-use Rattle.store.specs.Numbers.{hit, times, In, opt}
-use Rattle.store.specs.Cells.{empty, at, links_of, inlinks, holds, total}
+use Rattle.store.specs.Numbers.{times, In, opt}
+use Rattle.store.specs.Cells.{empty, at, links_of, inlinks, total}
 use Rattle.store.specs.NumbersLemmas.{times_append, times_length}
 
 pub at_set : (cells : List Cell) (c : ℕ) (x : Cell) (d : ℕ) → c < length cells → ((d ≡ c) × (at (slice_set cells c x) d ≡ x)) ⊎ ((d ≢ c) × (at (slice_set cells c x) d ≡ at cells d))

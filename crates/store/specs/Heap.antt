@@ -1,5 +1,5 @@
 -- What the two stores do to their table, step by step.
-use Rattle.std.specs.Prelude.{ℕ, zero, suc, ◌+◌, ◌-◌, Bool, true, false, cond, List, [], ◌∷◌, Some, None, Option, ◌==◌, slice_set}
+use Rattle.std.specs.Prelude.{ℕ, zero, suc, ◌+◌, ◌-◌, cond, List, [], ◌∷◌, Some, None, Option, ◌==◌, slice_set}
 use Rattle.store.specs.declared.cell.Cell.{Cell}
 use Rattle.store.specs.Numbers.{item}
 use Rattle.store.specs.Meaning.{Node, Asked, making, copying, releasing, parting, rebuilding}

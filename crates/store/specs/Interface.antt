@@ -1,12 +1,12 @@
 -- What a store's calls answer, whatever store it is.
-use Rattle.std.specs.Prelude.{◌≡◌, ℕ, List, [], ◌∷◌, ◌++◌, ℤ, Some, None, Ok, Err, Option, Result}
+use Rattle.std.specs.Prelude.{◌≡◌, ℕ, List, ◌++◌, ℤ, Some, None, Ok, Err, Option, Result}
 use Rattle.store.specs.declared.hold.Hold.{Hold}
 use Rattle.store.specs.declared.hold.Links.{Links}
 use Rattle.store.specs.declared.fault.Refused.{Refused}
 use Rattle.store.specs.declared.fault.RefusedRebuild.{RefusedRebuild}
 use Rattle.store.specs.declared.fault.StoreFault.TheVariants.{NoCell}
 use Rattle.store.specs.Numbers.{opt, item}
-use Rattle.store.specs.Meaning.{Node, Meaning, Reached, less, Moved, Unchanged, Made, Full}
+use Rattle.store.specs.Meaning.{Node, Meaning, Reached, less, Unchanged, Made, Full}
 use Rattle.store.specs.Sound.{Fitting}
 
 -- the cell that an optional hold is on

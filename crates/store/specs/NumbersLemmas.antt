@@ -1,8 +1,8 @@
 -- How often a number stands in a list.
-use Rattle.std.specs.Prelude.{◌≡◌, ℕ, zero, suc, ◌+◌, ◌-◌, ◌<◌, ◌≤◌, Bool, true, false, cond, ◌⊎◌, List, [], ◌∷◌, ◌++◌, length, is_some, Some, None, Option, ◌≢◌, refl}
-use Rattle.std.proofs.Common.{sym, ap, ◌∙◌, inl, inr, ⊎_elim, arith}
-use Rattle.std.proofs.lemmas.Bool.{cases_lt, cases_eq, eq-eqb, ne_eqb}
-use Rattle.store.specs.Numbers.{hit, times, In, opt, item}
+use Rattle.std.specs.Prelude.{◌≡◌, ℕ, suc, ◌+◌, ◌≤◌, true, false, ◌⊎◌, List, [], ◌∷◌, ◌++◌, length, is_some, Some, None, Option, ◌≢◌, refl}
+use Rattle.std.proofs.Common.{ap, inl, inr, ⊎_elim, arith}
+use Rattle.std.proofs.lemmas.Bool.{cases_eq, eq-eqb, ne_eqb}
+use Rattle.store.specs.Numbers.{hit, times, opt, item}
 
 pub hit_cases : (a b : ℕ) → ((a ≡ b) × (hit a b ≡ 1)) ⊎ ((a ≢ b) × (hit a b ≡ 0))
 hit_cases a b = ⊎_elim (λ e. inl (e, rw (eq-eqb a b e))) (λ n. inr (n, rw (ne_eqb a b n))) (cases_eq a b)

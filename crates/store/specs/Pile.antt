@@ -1,18 +1,18 @@
 -- The eager store's pile: what waits on it is wiped and listed until none waits.
-use Rattle.std.specs.Prelude.{◌≡◌, ℕ, zero, suc, ◌+◌, ◌-◌, ◌*◌, ◌<◌, ◌≤◌, Bool, true, false, cond, ◌⊎◌, List, [], ◌∷◌, ◌++◌, length, Some, None, Option, ◌==◌, ◌≢◌, slice_set}
+use Rattle.std.specs.Prelude.{◌≡◌, ℕ, zero, suc, ◌+◌, ◌-◌, ◌<◌, ◌≤◌, true, false, cond, ◌⊎◌, List, [], ◌∷◌, ◌++◌, length, Some, None, Option, ◌==◌, ◌≢◌, slice_set}
 use Rattle.std.proofs.Math.Path.{refl, ap}
-use Rattle.std.proofs.Common.{sym, subst, ◌∙◌, inl, inr, arith}
+use Rattle.std.proofs.Common.{sym, subst, ◌∙◌, arith}
 use Rattle.std.proofs.Math.Logic.{⊎_elim}
 use Rattle.std.proofs.Math.ListN.{length-set}
 use Rattle.std.proofs.lemmas.Bool.{cases_lt, cases_eq, eq-eqb, ne_eqb}
 use Rattle.store.specs.declared.cell.Cell.{Cell}
-use Rattle.store.specs.Numbers.{hit, times, In, opt}
-use Rattle.store.specs.Cells.{empty, at, links_of, node_of, inlinks, holds, total}
+use Rattle.store.specs.Numbers.{hit, times}
+use Rattle.store.specs.Cells.{empty, at, links_of, node_of, holds, total}
 use Rattle.store.specs.Heap.{Heap, cell, recounted, sunk, front, sunk_all, front_all, shed, turned, turned_pile, drained, settled}
 use Rattle.store.specs.Sound.{Sound, Chain, Okay, Piling, Lowered, Lawful, Wiped, Clean}
-use Rattle.store.specs.NumbersLemmas.{hit_cases, hit_self, hit_other, times_append, times_same}
-use Rattle.store.specs.CellsLemmas.{at_set, at_self, at_other, inlinks_set, inlinks_at, counted_inside, total_set}
-use Rattle.store.specs.Writes.{clear, clear_held}
+use Rattle.store.specs.NumbersLemmas.{hit_self, hit_other, times_append}
+use Rattle.store.specs.CellsLemmas.{at_set, at_self, inlinks_set, total_set}
+use Rattle.store.specs.Writes.{clear}
 use Rattle.store.specs.Sinks.{chain_kept, more, sink_here, sink_sound, sink_lowered, sink_chain}
 
 pub lowered_none : (cells : List Cell) → Lowered cells cells []

@@ -1,5 +1,5 @@
 -- The sixteen roots: each empty, or the number of a cell.
-use Rattle.std.specs.Prelude.{◌≡◌, ℕ, ◌<◌, List, [], ◌∷◌, ◌++◌, set, Some, None, Ok, Err, Option, Result, ◌≢◌, slice_index_or, slice_set}
+use Rattle.std.specs.Prelude.{◌≡◌, ℕ, ◌<◌, List, [], ◌∷◌, ◌++◌, Some, None, Ok, Err, Option, Result, ◌≢◌, slice_index_or, slice_set}
 use Rattle.store.specs.declared.hold.Hold.{Hold}
 use Rattle.store.specs.Numbers.{opt}
 

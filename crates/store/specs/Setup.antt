@@ -1,5 +1,5 @@
 -- A table at set-up.
-use Rattle.std.specs.Prelude.{◌≡◌, ℕ, zero, suc, ◌+◌, ◌<◌, ◌≤◌, cond, List, [], ◌∷◌, length, Some, None, Option, ◌==◌}
+use Rattle.std.specs.Prelude.{ℕ, zero, suc, ◌+◌, ◌<◌, ◌≤◌, cond, List, [], ◌∷◌, length, Some, None, ◌==◌}
 use Rattle.store.specs.declared.cell.Cell.{Cell}
 use Rattle.store.specs.Cells.{empty}
 use Rattle.store.specs.Heap.{Heap}

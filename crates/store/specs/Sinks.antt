@@ -1,14 +1,14 @@
 -- One is taken from a count, and a cell whose count falls to 0 is put on a list.
-use Rattle.std.specs.Prelude.{◌≡◌, ℕ, zero, suc, ◌+◌, ◌-◌, ◌*◌, ◌<◌, ◌≤◌, Bool, true, false, cond, ◌⊎◌, List, [], ◌∷◌, ◌++◌, length, Some, None, Option, ◌==◌, slice_set, refl}
-use Rattle.std.proofs.Common.{sym, ap, subst, ◌∙◌, inl, inr, ⊎_elim, arith, length-set}
-use Rattle.std.proofs.lemmas.Bool.{cases_lt, cases_eq, eq-eqb, ne_eqb}
+use Rattle.std.specs.Prelude.{◌≡◌, ℕ, ◌+◌, ◌-◌, ◌<◌, cond, List, [], ◌∷◌, length, Option, ◌==◌, slice_set, refl}
+use Rattle.std.proofs.Common.{sym, ap, subst, ◌∙◌, ⊎_elim, arith, length-set}
+use Rattle.std.proofs.lemmas.Bool.{cases_eq, eq-eqb, ne_eqb}
 use Rattle.store.specs.declared.cell.Cell.{Cell}
-use Rattle.store.specs.Numbers.{hit, times, In, opt}
-use Rattle.store.specs.Cells.{empty, at, links_of, node_of, inlinks, holds, total}
+use Rattle.store.specs.Numbers.{hit, times}
+use Rattle.store.specs.Cells.{at, node_of, inlinks, holds}
 use Rattle.store.specs.Heap.{Heap, cell, recounted, sunk, front, deferred}
-use Rattle.store.specs.Sound.{Sound, Chain, Okay, Lowered, Lawful}
-use Rattle.store.specs.NumbersLemmas.{hit_cases, hit_self, hit_other, times_same}
-use Rattle.store.specs.CellsLemmas.{at_set, at_self, at_other, inlinks_set, counted_inside, total_set}
+use Rattle.store.specs.Sound.{Sound, Chain, Lowered, Lawful}
+use Rattle.store.specs.NumbersLemmas.{hit_cases, hit_self, hit_other}
+use Rattle.store.specs.CellsLemmas.{at_set, at_self, at_other, inlinks_set, counted_inside}
 use Rattle.store.specs.Writes.{recount}
 
 -- a write outside a chain leaves it

@@ -1,10 +1,10 @@
 -- What holds of our two stores' tables.
-use Rattle.std.specs.Prelude.{◌≡◌, ℕ, zero, suc, ◌+◌, ◌-◌, ◌<◌, ◌≤◌, Bool, List, [], ◌∷◌, ◌++◌, length, pos, is_some, Some, None, Option, nat_le}
+use Rattle.std.specs.Prelude.{◌≡◌, ℕ, ◌+◌, ◌<◌, ◌≤◌, List, [], ◌∷◌, ◌++◌, length, pos, is_some, Some, None, Option, nat_le}
 use Rattle.store.specs.declared.cell.Cell.{Cell}
 use Rattle.store.specs.Numbers.{times, In}
 use Rattle.store.specs.Meaning.{arity}
-use Rattle.store.specs.Cells.{empty, at, links_of, node_of, inlinks, holds}
-use Rattle.store.specs.Heap.{Heap, cell}
+use Rattle.store.specs.Cells.{at, links_of, node_of, inlinks, holds}
+use Rattle.store.specs.Heap.{Heap}
 
 -- a link is there exactly where the kind has it
 pub record Fitting (kind : ℕ) (link0 link1 : Option ℕ) : Type 0 where

@@ -1,12 +1,12 @@
 -- Writing one cell keeps a table sound.
-use Rattle.std.specs.Prelude.{◌≡◌, ℕ, zero, suc, ◌+◌, ◌-◌, ◌*◌, ◌<◌, ◌≤◌, Bool, true, false, cond, leb, ◌⊎◌, List, [], ◌∷◌, ◌++◌, length, pos, is_some, Some, None, Option, ◌==◌, ◌≢◌, nat_le, nat_lt, slice_set, refl}
-use Rattle.std.proofs.Common.{sym, ap, subst, ◌∙◌, arith, length-set}
+use Rattle.std.specs.Prelude.{◌≡◌, ℕ, ◌+◌, ◌<◌, ◌≤◌, true, false, cond, leb, ◌⊎◌, List, [], ◌∷◌, ◌++◌, length, is_some, None, Option, ◌==◌, ◌≢◌, nat_le, nat_lt, slice_set, refl}
+use Rattle.std.proofs.Common.{sym, ap, ◌∙◌, arith, length-set}
 use Rattle.std.proofs.Math.Logic.{inl, inr, ⊎_elim}
-use Rattle.std.proofs.lemmas.Bool.{cases_lt, cases_eq, eq-eqb, ne_eqb, le-leb}
+use Rattle.std.proofs.lemmas.Bool.{cases_eq, eq-eqb, ne_eqb, le-leb}
 use Rattle.store.specs.declared.cell.Cell.{Cell}
-use Rattle.store.specs.Numbers.{hit, times, In, opt, item}
+use Rattle.store.specs.Numbers.{times, In, opt, item}
 use Rattle.store.specs.Meaning.{Node, arity}
-use Rattle.store.specs.Cells.{empty, at, links_of, inlinks, holds, total}
+use Rattle.store.specs.Cells.{empty, at, links_of, inlinks, holds}
 use Rattle.store.specs.Heap.{recounted, written}
 use Rattle.store.specs.Sound.{Fitting, Sound}
 use Rattle.store.specs.NumbersLemmas.{times_same}

@@ -1,4 +1,6 @@
 // A store of equal cells with reference counts, in two makes, behind one interface.
+#![tactic(auto)]
+
 pub mod calls;
 pub mod cell;
 pub mod deferring;

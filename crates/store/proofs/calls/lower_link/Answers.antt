@@ -1,4 +1,4 @@
-use Rattle.std.proofs.Common.{◌≡◌, ℕ, Option, sym, refl, ap, ◌∙◌}
+use Rattle.std.proofs.Common.{ℕ, Option, sym, ap, ◌∙◌}
 use Rattle.store.specs.Numbers.{opt}
 use Rattle.store.specs.Heap.{lowered_all}
 use Rattle.store.specs.View.{heap}

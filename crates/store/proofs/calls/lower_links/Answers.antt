@@ -1,4 +1,4 @@
-use Rattle.std.proofs.Common.{◌≡◌, ℕ, ◌≤◌, sym, refl, ap, ◌∙◌, subst, arith}
+use Rattle.std.proofs.Common.{ℕ, ◌≤◌, sym, ap, ◌∙◌, subst, arith}
 use Rattle.store.specs.Numbers.{times, opt}
 use Rattle.store.specs.Cells.{holds}
 use Rattle.store.specs.Heap.{Heap, lowered_all}

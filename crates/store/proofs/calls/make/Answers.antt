@@ -1,4 +1,4 @@
-use Rattle.std.proofs.Common.{◌≡◌, ℕ, Option, sym, refl, ap}
+use Rattle.std.proofs.Common.{ℕ, Option, sym, refl, ap}
 use Rattle.store.specs.Heap.{made_in}
 use Rattle.store.specs.Interface.{asked_for}
 use Rattle.store.specs.View.{heap}

@@ -1,8 +1,7 @@
-use Rattle.std.proofs.Common.{◌≡◌, refl, ◌∙◌, to_z-of_z}
+use Rattle.std.proofs.Common.{refl, ◌∙◌, to_z-of_z}
 use Rattle.store.specs.Cells.{links_of}
 use Rattle.store.specs.Heap.{filled, lowered_all, made_in}
 use Rattle.store.specs.Interface.{asked_for}
-use Rattle.store.specs.View.{heap}
 use Rattle.store.proofs.Reach.{first_free}
 use Rattle.store.proofs.Steps.{first_here, claim_lowerable, lowerable_at}
 use Rattle.store.proofs.calls.make_in.Goals as goal

@@ -1,4 +1,4 @@
-use Rattle.std.proofs.Common.{◌≡◌, ℕ, ◌+◌, ◌<◌, ◌≤◌, cond, eqb, ◌++◌, length, Option, sym, refl, ap, ◌∙◌, subst, arith}
+use Rattle.std.proofs.Common.{◌≡◌, ℕ, ◌+◌, ◌<◌, cond, eqb, length, Option, sym, ap, ◌∙◌, subst, arith}
 use Rattle.std.proofs.lemmas.Bool.{eq-eqb, ne_eqb, cond-true, cond-false}
 use Rattle.store.specs.declared.cell.Cell.{Cell}
 use Rattle.store.specs.declared.table.Table.{Table}
@@ -8,7 +8,7 @@ use Rattle.store.specs.Meaning.{Few}
 use Rattle.store.specs.Heap.{Heap, cell, stripped, raised_all, parted}
 use Rattle.store.specs.Sound.{Okay}
 use Rattle.store.specs.View.{heap}
-use Rattle.store.specs.NumbersLemmas.{times_append, times_length}
+use Rattle.store.specs.NumbersLemmas.{times_append}
 use Rattle.store.specs.CellsLemmas.{inlinks_at, opt_length}
 use Rattle.store.proofs.Reach.{count_small}
 use Rattle.store.proofs.Steps.{held_here, strip, strip_held, raises, raised_more}

@@ -1,4 +1,4 @@
-use Rattle.std.proofs.Common.{◌≡◌, ℕ, ◌<◌, Option, sym, refl, ap, ◌∙◌, subst, arith}
+use Rattle.std.proofs.Common.{ℕ, Option, sym, ap, ◌∙◌, arith}
 use Rattle.store.specs.Numbers.{times, In, opt}
 use Rattle.store.specs.Heap.{raised_all}
 use Rattle.store.specs.View.{heap}

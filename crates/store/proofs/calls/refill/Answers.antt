@@ -1,6 +1,6 @@
-use Rattle.std.proofs.Common.{◌≡◌, ◌<◌, length, sym, ap, ◌∙◌, subst, arith, to_z-of_z}
+use Rattle.std.proofs.Common.{◌<◌, length, sym, ◌∙◌, subst, arith, to_z-of_z}
 use Rattle.store.specs.Cells.{links_of}
-use Rattle.store.specs.Heap.{Heap, filled, lowered_all}
+use Rattle.store.specs.Heap.{Heap, filled}
 use Rattle.store.specs.Interface.{asked_for}
 use Rattle.store.specs.View.{heap}
 use Rattle.store.proofs.Steps.{lowers}

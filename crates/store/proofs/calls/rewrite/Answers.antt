@@ -1,4 +1,4 @@
-use Rattle.std.proofs.Common.{◌≡◌, ◌∙◌, to_z-of_z}
+use Rattle.std.proofs.Common.{◌∙◌, to_z-of_z}
 use Rattle.store.specs.Cells.{links_of}
 use Rattle.store.specs.Heap.{filled, lowered_all, rewritten}
 use Rattle.store.specs.Interface.{asked_for}

@@ -1,4 +1,4 @@
-use Rattle.std.proofs.Common.{◌≡◌, ℕ, ◌<◌, Option, sym, refl, ap, ◌∙◌, arith}
+use Rattle.std.proofs.Common.{ℕ, ◌<◌, Option, sym, ap, ◌∙◌, arith}
 use Rattle.store.specs.Numbers.{times, opt}
 use Rattle.store.specs.Cells.{holds}
 use Rattle.store.specs.Heap.{sunk_all, front_all}

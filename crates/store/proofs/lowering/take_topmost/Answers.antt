@@ -1,12 +1,12 @@
-use Rattle.std.proofs.Common.{◌≡◌, ℕ, ◌<◌, ◌≤◌, Option, sym, refl, ap, ◌∙◌, subst, arith}
+use Rattle.std.proofs.Common.{◌≡◌, ℕ, ◌≤◌, Option, sym, ap, ◌∙◌, subst, arith}
 use Rattle.store.specs.declared.cell.Cell.{Cell}
 use Rattle.store.specs.Numbers.{times, opt}
-use Rattle.store.specs.Cells.{at, holds, links_of}
+use Rattle.store.specs.Cells.{holds}
 use Rattle.store.specs.Heap.{Heap, cell, shed, sunk_all, front_all, turned, turned_pile}
 use Rattle.store.specs.Sound.{Piling}
 use Rattle.store.specs.View.{heap}
 use Rattle.store.specs.NumbersLemmas.{times_append}
-use Rattle.store.specs.Pile.{Top, topmost, shed_here, shed_piling, shed_held, Went, sinks, sunk_more, front_more}
+use Rattle.store.specs.Pile.{Top, topmost, shed_here, shed_piling, shed_held, sinks, sunk_more, front_more}
 use Rattle.store.proofs.lowering.take_topmost.Goals as goal
 
 -- what the second lowering meets

@@ -1,4 +1,4 @@
-use Rattle.std.proofs.Common.{◌≡◌, ℕ, ◌+◌, ◌<◌, cond, eqb, length, Some, None, sym, refl, ap, ◌∙◌, arith, ext_get_or, rules, below_more}
+use Rattle.std.proofs.Common.{◌≡◌, ◌+◌, cond, eqb, length, Some, None, sym, ap, ◌∙◌, arith, ext_get_or, below_more}
 use Rattle.std.proofs.lemmas.Bool.{eq-eqb, ne_eqb, cond-true, cond-false}
 use Rattle.store.specs.Cells.{empty}
 use Rattle.store.specs.Setup.{fresh_cell, fresh_from}

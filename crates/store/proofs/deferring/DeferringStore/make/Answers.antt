@@ -1,5 +1,5 @@
-use Rattle.std.proofs.Common.{◌≡◌, sym, ap, ◌∙◌, to_z-of_z}
-use Rattle.store.specs.Heap.{Heap, deferred, after}
+use Rattle.std.proofs.Common.{◌≡◌, ap, ◌∙◌, to_z-of_z}
+use Rattle.store.specs.Heap.{deferred, after}
 use Rattle.store.specs.Interface.{asked_for}
 use Rattle.store.specs.Meaning.{making}
 use Rattle.store.specs.View.{heap}

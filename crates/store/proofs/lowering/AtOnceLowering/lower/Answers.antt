@@ -1,6 +1,6 @@
-use Rattle.std.proofs.Common.{◌≡◌, ℕ, zero, suc, ◌<◌, ◌≤◌, List, [], ◌∷◌, Some, None, Option, sym, refl, ap, ◌∙◌, subst, arith}
+use Rattle.std.proofs.Common.{◌≡◌, ℕ, zero, suc, ◌<◌, ◌≤◌, [], Some, None, Option, sym, refl, ap, ◌∙◌, subst, arith}
 use Rattle.store.specs.Cells.{total}
-use Rattle.store.specs.Heap.{Heap, cell, sunk, front, turned, turned_pile, drained, settled}
+use Rattle.store.specs.Heap.{Heap, sunk, front, turned, turned_pile, drained, settled}
 use Rattle.store.specs.Sound.{Okay, Piling}
 use Rattle.store.specs.View.{heap}
 use Rattle.store.specs.Sinks.{sink_here}

@@ -1,4 +1,4 @@
-use Rattle.std.proofs.Common.{◌≡◌, arith}
+use Rattle.std.proofs.Common.{arith}
 use Rattle.store.specs.Heap.{deferred}
 use Rattle.store.specs.View.{heap}
 use Rattle.store.specs.Sinks.{sink_here}

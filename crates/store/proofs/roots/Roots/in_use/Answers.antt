@@ -1,4 +1,4 @@
-use Rattle.std.proofs.Common.{◌≡◌, ℕ, zero, suc, ◌<◌, Bool, false, ◌≢◌, List, [], ◌∷◌, map, length, get_or, is_some, None, Option, sym, refl, ap, ◌∙◌, arith, length-set, get_or-set_other, get_or-set_same, ext_get_or, below_more}
+use Rattle.std.proofs.Common.{◌≡◌, ℕ, zero, suc, ◌<◌, false, List, [], ◌∷◌, map, length, get_or, is_some, None, Option, sym, refl, ap, ◌∙◌, arith, length-set, get_or-set_other, get_or-set_same, ext_get_or, below_more}
 use Rattle.store.proofs.roots.Roots.in_use.Goals as goal
 
 length_flags : (xs : List (Option ℕ)) → length (map is_some xs) ≡ length xs
