@@ -5,7 +5,7 @@ use Rattle.bench.specs.declared.call.Touch.{Touch}
 use Rattle.bench.specs.declared.fault.BenchFault.{BenchFault}
 use Rattle.bench.specs.Tests.{touch_refused, touched, first_of, touch_fault, verdict}
 use Rattle.bench.proofs.tests.test_touches.Goals as goal
-use Rattle.bench.proofs.tests.test_touches.Goals.{in-Some+in-ok-test-touch, in-default}
+use Rattle.bench.proofs.tests.test_touches.Goals.{in-Some+in_ok-test_touch, in_default}
 
 passed : (o : Option BenchFault) (x : Unit {0}) → verdict o ≡ Ok x → o ≡ None
 passed None x e = refl
@@ -25,24 +25,24 @@ module _ (ts : List (Option Touch)) (i : ℕ) (t : Touch) (used : List Bool) (l 
   there : touch_fault (drop i ts) used ≡ first_of f (touch_fault (drop (i + 1) ts) (touched t used))
   there = here ts i (Some t) used l e ∙ ap (λ (x : Option BenchFault). first_of x (touch_fault (drop (i + 1) ts) (touched t used))) r
 
-pub returns-in-err-test-touch : goal.returns-in-err-test-touch
-returns-in-err-test-touch c =
-    let f = c.in-err-test-touch.field-0.0 in
-    let r = refused (touch_refused c.in-Some.t c.each.flags) f (sym c.test-touch.ensures.told ∙ c.in-err-test-touch.was) in
+pub returns-in_err-test_touch : goal.returns-in_err-test_touch
+returns-in_err-test_touch c =
+    let f = c.in_err-test_touch.field-0.0 in
+    let r = refused (touch_refused c.in-Some.t c.each.flags) f (sym c.test_touch.ensures.told ∙ c.in_err-test_touch.was) in
     let a = there c.args.touches.now c.each.touch-index c.in-Some.t c.each.flags c.each-test.true c.in-Some.is (Some f) r in
-    let p = err_from_is_err_and c.from-residual.result c.from-residual.ensures.1 in
+    let p = err_from_is_err_and c.from_residual.result c.from_residual.ensures.1 in
     p.1 ∙ ap Err p.2 ∙ sym (ap verdict (sym c.each.invariant ∙ a))
 
 pub each-preserved : goal.each-preserved
 each-preserved c = elim c.match-touch.branch [
-  | in-Some+in-ok-test-touch w ↦
-      let ok = w.in-ok-test-touch.was in
-      let r = passed (touch_refused w.in-Some.t c.each.flags) _ (sym w.test-touch.ensures.told ∙ ok) in
+  | in-Some+in_ok-test_touch w ↦
+      let ok = w.in_ok-test_touch.was in
+      let r = passed (touch_refused w.in-Some.t c.each.flags) _ (sym w.test_touch.ensures.told ∙ ok) in
       let a = there c.args.touches.now c.each.touch-index w.in-Some.t c.each.flags c.each-test.true w.in-Some.is None r in
-      ap (λ (x : List Bool). touch_fault (drop (c.each.touch-index + 1) c.args.touches.now) x) (w.flags-is ∙ w.test-touch.ensures.after ok) ∙ sym a ∙ c.each.invariant
-  | in-default w ↦
+      ap (λ (x : List Bool). touch_fault (drop (c.each.touch-index + 1) c.args.touches.now) x) (w.flags-is ∙ w.test_touch.ensures.after ok) ∙ sym a ∙ c.each.invariant
+  | in_default w ↦
       ap (λ (x : List Bool). touch_fault (drop (c.each.touch-index + 1) c.args.touches.now) x) w.flags-is
-      ∙ sym (here c.args.touches.now c.each.touch-index None c.each.flags c.each-test.true w.in-default.is) ∙ c.each.invariant
+      ∙ sym (here c.args.touches.now c.each.touch-index None c.each.flags c.each-test.true w.in_default.is) ∙ c.each.invariant
 ]
 
 pub returns : goal.returns

@@ -25,5 +25,5 @@ pub returns : goal.returns
 returns g c =
     let slots = c.args.self.now.roots.slots in
     let m = g.S.Store.means c.args.self.now.store in
-    let x : Cell c.kind.result _ ≡ Cell (m.content c.in-Some.c).kind (m.content c.in-Some.c).value = (λ i. Cell (c.kind.ensures i) ((to_z-of_z {w = w32} (record { sfits = c.value.type-inv }) ∙ c.value.ensures) i)) in
+    let x : Cell c.kind.result _ ≡ Cell (m.content c.in-Some.c).kind (m.content c.in-Some.c).value = (λ i. Cell (c.kind.ensures i) ((to_z-of_z {w = w32} (record { sfits = c.value.type_inv }) ∙ c.value.ensures) i)) in
     record { effect = (refl, g.S.Store.rests c.args.self.now.store); told = subst (λ (y : Answer). Answers slots m (Look c.args.r) (Ok y) slots m) (sym x) (look_replies slots m c.args.r c.in-Some.c c.requires.passed (sym c.in-Some.ensures)) }

@@ -40,8 +40,8 @@ fill-requires g c =
     c.take-first.ensures.emptied c.take-second.ensures.emptied c.take-first.ensures.given c.take-second.ensures.given p.spends p.fits p.link_0 p.link_1 in
     record { root = p.there; empty = ap (λ (l : List (Option ℕ)). root_at l c.args.d) k.slots ∙ p.clear }
 
-pub put-back-requires : goal.put-back-requires
-put-back-requires g c =
+pub put_back-requires : goal.put_back-requires
+put_back-requires g c =
     let slots = c.args.self.now.roots.slots in
     let p = make_passes slots c.args.d c.args.kind c.args.value c.args.a c.args.b c.requires.passed in
     let k = links_taken slots c.take-first.new.self.roots.slots c.take-second.new.self.roots.slots c.args.kind c.args.a c.args.b (on c.take-first.result) (on c.take-second.result)
@@ -93,12 +93,12 @@ returns-in-Err g c =
     let st = c.take-second.ensures.store ∙ c.take-first.ensures.store in
     let t = c.in-Err.ensures.told in
     let call = Make c.args.d c.args.kind c.args.value a b in
-    let back : c.put-back.new.self.roots.slots ≡ slots = c.put-back.ensures.slots ∙ ap (λ (r : Refused). put (put c.take-second.new.self.roots.slots b (on r.links.second)) a (on r.links.first)) t.3 ∙ k.whole in
+    let back : c.put_back.new.self.roots.slots ≡ slots = c.put_back.ensures.slots ∙ ap (λ (r : Refused). put (put c.take-second.new.self.roots.slots b (on r.links.second)) a (on r.links.first)) t.3 ∙ k.whole in
     let fault = ap (λ (r : Refused). r.fault) t.3 in
     record {
-      ok = subst g.S.Store.ok (sym c.put-back.ensures.store) c.in-Err.ensures.ok;
-      effect = (back, subst (g.S.Store.kept c.args.self.now.store) (sym c.put-back.ensures.store) (subst (λ s. g.S.Store.kept s c.make.new.self) st t.2));
-      told = subst (λ s. Answers slots m call (Err (Store (record { fault = c.in-Err.field-0.fault; root = c.args.d }))) c.put-back.new.self.roots.slots (g.S.Store.means s)) (sym c.put-back.ensures.store)
+      ok = subst g.S.Store.ok (sym c.put_back.ensures.store) c.in-Err.ensures.ok;
+      effect = (back, subst (g.S.Store.kept c.args.self.now.store) (sym c.put_back.ensures.store) (subst (λ s. g.S.Store.kept s c.make.new.self) st t.2));
+      told = subst (λ s. Answers slots m call (Err (Store (record { fault = c.in-Err.field-0.fault; root = c.args.d }))) c.put_back.new.self.roots.slots (g.S.Store.means s)) (sym c.put_back.ensures.store)
           (subst (λ (l : List (Option ℕ)). Answers slots m call (Err (Store (record { fault = c.in-Err.field-0.fault; root = c.args.d }))) l n) (sym back)
           (subst (λ f. Answers slots m call (Err (Store (record { fault = f; root = c.args.d }))) slots n) (sym fault)
           (make_wants slots m n c.args.d c.args.kind c.args.value a b c.requires.passed (subst (λ s. Full (g.S.Store.means s)) st t.0) (subst (λ s. Unchanged (g.S.Store.means s) n) st t.1))));

@@ -18,7 +18,7 @@ use Rattle.bench.proofs.bench.Bench.match_root.Goals as goal
 pub unreachable-requires : goal.unreachable-requires
 unreachable-requires g c =
     let slots = c.args.self.now.roots.slots in
-    not_none (root_at slots c.args.r) (match_passes slots c.args.r c.args.kind c.args.a c.args.b c.requires.stood.sized c.requires.passed).used c.in-default.ensures
+    not_none (root_at slots c.args.r) (match_passes slots c.args.r c.args.kind c.args.a c.args.b c.requires.stood.sized c.requires.passed).used c.in_default.ensures
 
 pub kind-requires : goal.kind-requires
 kind-requires g c = record { ok = c.requires.ok; reached = by_hold ((asks c.requires.stood).held c.args.r c.in-Some.c (sym c.in-Some.ensures)) }
@@ -39,8 +39,8 @@ returns-then-kind g c =
 only : (slots : List (Option ℕ)) (r c d : ℕ) → Some c ≡ root_at slots r → root_at slots r ≡ Some d → c ≡ d
 only slots r c d e q = let z : Some c ≡ Some d = e ∙ q in cc
 
-pub part-root-requires : goal.part-root-requires
-part-root-requires g c =
+pub part_root-requires : goal.part_root-requires
+part_root-requires g c =
     let slots = c.args.self.now.roots.slots in
     let m = g.S.Store.means c.args.self.now.store in
     let k : (m.content c.in-Some.c).kind ≡ c.args.kind = sym c.kind.ensures ∙ c.if-kind.false in
@@ -50,7 +50,7 @@ pub returns : goal.returns
 returns g c =
     let slots = c.args.self.now.roots.slots in
     let m = g.S.Store.means c.args.self.now.store in
-    let n = g.S.Store.means c.part-root.new.self.store in
+    let n = g.S.Store.means c.part_root.new.self.store in
     let r = c.args.r in
     let a = c.args.a in
     let b = c.args.b in
@@ -60,12 +60,12 @@ returns g c =
     let x = match_passes slots r c.args.kind a b s.sized c.requires.passed in
     let k : (m.content i).kind ≡ c.args.kind = sym c.kind.ensures ∙ c.if-kind.false in
     let l : length (m.content i).links ≡ length (link_roots a b) = cells_shaped s.machine slots m i s.stands s.shaped (by_hold ((asks s).held r i e)) ∙ ap arity k ∙ sym (fits_arity c.args.kind a b x.fits) in
-    let v : Value _ ≡ Value (m.content i).value = ap (λ z. Value z) (to_z-of_z {w = w32} (record { sfits = c.value-value.type-inv }) ∙ c.value-value.ensures) in
+    let v : Value _ ≡ Value (m.content i).value = ap (λ z. Value z) (to_z-of_z {w = w32} (record { sfits = c.value-value.type_inv }) ∙ c.value-value.ensures) in
     let call = Match r c.args.kind a b in
     record {
-      ok = c.part-root.ensures.ok;
-      effect = c.part-root.ensures.did;
-      told = subst (λ (y : Answer). Answers slots m call (Ok y) c.part-root.new.self.roots.slots n) (sym v)
-          (subst (λ (q : List (Option ℕ)). Answers slots m call (Ok (Value (m.content i).value)) q n) (sym (c.part-root.ensures.slots i e))
-          (match_replies slots m r c.args.kind a b i c.requires.passed e n k (x.room (m.content i).links l) (c.part-root.ensures.moved i e)));
+      ok = c.part_root.ensures.ok;
+      effect = c.part_root.ensures.did;
+      told = subst (λ (y : Answer). Answers slots m call (Ok y) c.part_root.new.self.roots.slots n) (sym v)
+          (subst (λ (q : List (Option ℕ)). Answers slots m call (Ok (Value (m.content i).value)) q n) (sym (c.part_root.ensures.slots i e))
+          (match_replies slots m r c.args.kind a b i c.requires.passed e n k (x.room (m.content i).links l) (c.part_root.ensures.moved i e)));
     }

@@ -27,8 +27,8 @@ pub part-links-requires : goal.part-links-requires
 part-links-requires g c =
     record { ok = c.requires.ok; few = few_of c.requires.stood; held = (asks c.requires.stood).held c.args.r c.in-Some.h.cell (sym c.in-Some.ensures.given) }
 
-pub fill-some-requires : goal.fill-some-requires
-fill-some-requires g c =
+pub fill_some-requires : goal.fill_some-requires
+fill_some-requires g c =
     let slots = c.args.self.now.roots.slots in
     let m = g.S.Store.means c.args.self.now.store in
     let e = sym c.in-Some.ensures.given in
@@ -41,14 +41,14 @@ module _ (base empty one : List (Option ℕ)) (a : ℕ) (x y : Option ℕ) (e : 
   one_is : one ≡ put base a y
   one_is = f ∙ (λ i. put (e i) a (g i))
 
-pub fill-some-requires-in-Some : goal.fill-some-requires-in-Some
-fill-some-requires-in-Some g c =
+pub fill_some-requires-in-Some : goal.fill_some-requires-in-Some
+fill_some-requires-in-Some g c =
     let slots = c.args.self.now.roots.slots in
     let m = g.S.Store.means c.args.self.now.store in
     let e = sym c.in-Some.ensures.given in
     let h = hand slots m c.requires.stood c.args.r c.args.kind c.args.a c.args.b c.in-Some.h.cell c.requires.passed e (c.requires.kind c.in-Some.h.cell e) in
-    let o = one_is (spend slots c.args.r) c.empty.new.self.slots c.fill-some.new.self.roots.slots c.args.a (on c.part-links.result.first) (item (m.content c.in-Some.h.cell).links 0)
-    c.in-Some.ensures.emptied c.fill-some.ensures.slots c.part-links.ensures.handed.first in
+    let o = one_is (spend slots c.args.r) c.empty.new.self.slots c.fill_some.new.self.roots.slots c.args.a (on c.part-links.result.first) (item (m.content c.in-Some.h.cell).links 0)
+    c.in-Some.ensures.emptied c.fill_some.ensures.slots c.part-links.ensures.handed.first in
     subst (λ (l : List (Option ℕ)). Back l c.args.b (on c.part-links.result.second)) (sym o)
     (subst (λ (x : Option ℕ). Back (put (spend slots c.args.r) c.args.a (item (m.content c.in-Some.h.cell).links 0)) c.args.b x) (sym c.part-links.ensures.handed.second) h.second)
 
@@ -64,16 +64,16 @@ returns g c =
     let i = c.in-Some.h.cell in
     let e = sym c.in-Some.ensures.given in
     let h = hand slots m c.requires.stood c.args.r c.args.kind c.args.a c.args.b i c.requires.passed e (c.requires.kind i e) in
-    let o = one_is (spend slots c.args.r) c.empty.new.self.slots c.fill-some.new.self.roots.slots c.args.a (on c.part-links.result.first) (item (m.content i).links 0)
-    c.in-Some.ensures.emptied c.fill-some.ensures.slots c.part-links.ensures.handed.first in
-    let all = c.fill-some-in-Some.ensures.slots ∙ (λ j. put (o j) c.args.b (c.part-links.ensures.handed.second j)) ∙ h.whole in
-    let here = c.fill-some-in-Some.ensures.store ∙ c.fill-some.ensures.store in
+    let o = one_is (spend slots c.args.r) c.empty.new.self.slots c.fill_some.new.self.roots.slots c.args.a (on c.part-links.result.first) (item (m.content i).links 0)
+    c.in-Some.ensures.emptied c.fill_some.ensures.slots c.part-links.ensures.handed.first in
+    let all = c.fill_some-in-Some.ensures.slots ∙ (λ j. put (o j) c.args.b (c.part-links.ensures.handed.second j)) ∙ h.whole in
+    let here = c.fill_some-in-Some.ensures.store ∙ c.fill_some.ensures.store in
     let only : (d : ℕ) → root_at slots c.args.r ≡ Some d → i ≡ d = λ d q. (let z : Some i ≡ Some d = sym e ∙ q in cc) in
     record {
       ok = subst g.S.Store.ok (sym here) c.part-links.ensures.ok;
       did = subst (g.S.Store.did c.args.self.now.store (parting (cell_in (root_at slots c.args.r)))) (sym here)
           (subst (λ k. g.S.Store.did c.args.self.now.store (parting k) c.part-links.new.self) (ap cell_in c.in-Some.ensures.given) c.part-links.ensures.did);
-      slots = λ d q. subst (λ x. c.fill-some-in-Some.new.self.roots.slots ≡ filled (spend slots c.args.r) (link_roots c.args.a c.args.b) (m.content x).links) (only d q) all;
-      moved = λ d q. subst (λ x. Moved m (g.S.Store.means c.fill-some-in-Some.new.self.store) (x ∷ []) (m.content x).links) (only d q)
+      slots = λ d q. subst (λ x. c.fill_some-in-Some.new.self.roots.slots ≡ filled (spend slots c.args.r) (link_roots c.args.a c.args.b) (m.content x).links) (only d q) all;
+      moved = λ d q. subst (λ x. Moved m (g.S.Store.means c.fill_some-in-Some.new.self.store) (x ∷ []) (m.content x).links) (only d q)
           (subst (λ s. Moved m (g.S.Store.means s) (i ∷ []) (m.content i).links) (sym here) c.part-links.ensures.told);
     }

@@ -52,8 +52,8 @@ fill-requires g c =
     c.in-Some.ensures.emptied c.take-first.ensures.emptied c.take-second.ensures.emptied c.take-first.ensures.given c.take-second.ensures.given p in
     record { root = p.there; empty = ap (λ (l : List (Option ℕ)). root_at l r) k.slots ∙ spent_keeps (spend slots r) (link_roots c.args.a c.args.b) r (spend_none slots r) }
 
-pub put-back-requires : goal.put-back-requires
-put-back-requires g c =
+pub put_back-requires : goal.put_back-requires
+put_back-requires g c =
     let slots = c.args.self.now.roots.slots in
     let r = c.args.r in
     let p = rebuild_passes slots r c.args.kind c.args.value c.args.a c.args.b c.requires.passed in
@@ -77,8 +77,8 @@ fill-requires-in-Err g c =
     let k = taken_after slots c.empty.new.self.slots c.take-first.new.self.roots.slots c.take-second.new.self.roots.slots r c.args.kind c.args.a c.args.b (on c.take-first.result) (on c.take-second.result)
     c.in-Some.ensures.emptied c.take-first.ensures.emptied c.take-second.ensures.emptied c.take-first.ensures.given c.take-second.ensures.given p in
     let t = c.in-Err.ensures.told.3 in
-    let e = put_again slots c.take-second.new.self.roots.slots c.put-back.new.self.roots.slots r c.args.kind c.args.a c.args.b (on c.take-first.result) (on c.take-second.result) k c.in-Err.field-0.links
-    (ap (λ (q : RefusedRebuild). on q.links.first) t) (ap (λ (q : RefusedRebuild). on q.links.second) t) c.put-back.ensures.slots in
+    let e = put_again slots c.take-second.new.self.roots.slots c.put_back.new.self.roots.slots r c.args.kind c.args.a c.args.b (on c.take-first.result) (on c.take-second.result) k c.in-Err.field-0.links
+    (ap (λ (q : RefusedRebuild). on q.links.first) t) (ap (λ (q : RefusedRebuild). on q.links.second) t) c.put_back.ensures.slots in
     record { root = p.there; empty = ap (λ (l : List (Option ℕ)). root_at l r) e ∙ spend_none slots r }
 
 pub unreachable-requires : goal.unreachable-requires
@@ -136,10 +136,10 @@ returns-in-Err g c =
     c.in-Some.ensures.emptied c.take-first.ensures.emptied c.take-second.ensures.emptied c.take-first.ensures.given c.take-second.ensures.given p in
     let st = c.take-second.ensures.store ∙ c.take-first.ensures.store in
     let t = c.in-Err.ensures.told in
-    let e = put_again slots c.take-second.new.self.roots.slots c.put-back.new.self.roots.slots r c.args.kind a b (on c.take-first.result) (on c.take-second.result) k c.in-Err.field-0.links
-    (ap (λ (q : RefusedRebuild). on q.links.first) t.3) (ap (λ (q : RefusedRebuild). on q.links.second) t.3) c.put-back.ensures.slots in
+    let e = put_again slots c.take-second.new.self.roots.slots c.put_back.new.self.roots.slots r c.args.kind a b (on c.take-first.result) (on c.take-second.result) k c.in-Err.field-0.links
+    (ap (λ (q : RefusedRebuild). on q.links.first) t.3) (ap (λ (q : RefusedRebuild). on q.links.second) t.3) c.put_back.ensures.slots in
     let call = Rebuild r c.args.kind c.args.value a b in
-    let here = c.fill-in-Err.ensures.store ∙ c.put-back.ensures.store in
+    let here = c.fill-in-Err.ensures.store ∙ c.put_back.ensures.store in
     let named : Some c.in-Err.field-0.old.cell ≡ root_at slots r = ap (λ (q : RefusedRebuild). Some q.old.cell) t.3 ∙ c.in-Some.ensures.given in
     let back : c.fill-in-Err.new.self.roots.slots ≡ slots = c.fill-in-Err.ensures.filled ∙ (λ i. put (e i) r (named i)) ∙ restored slots r in
     let fault = ap (λ (q : RefusedRebuild). q.fault) t.3 in

@@ -8,12 +8,12 @@ use Rattle.bench.proofs.bench.Bench.same_roots.Goals as goal
 pub unreachable-requires : goal.unreachable-requires
 unreachable-requires g c =
     let slots = c.args.self.now.roots.slots in
-    not_none (root_at slots c.args.r) (same_passes slots c.args.r c.args.s c.requires.passed).0.used c.in-default.ensures
+    not_none (root_at slots c.args.r) (same_passes slots c.args.r c.args.s c.requires.passed).0.used c.in_default.ensures
 
-pub unreachable-requires-in-default-number : goal.unreachable-requires-in-default-number
-unreachable-requires-in-default-number g c =
+pub unreachable-requires-in_default-number : goal.unreachable-requires-in_default-number
+unreachable-requires-in_default-number g c =
     let slots = c.args.self.now.roots.slots in
-    not_none (root_at slots c.args.s) (same_passes slots c.args.r c.args.s c.requires.passed).1.used c.in-default-number.ensures
+    not_none (root_at slots c.args.s) (same_passes slots c.args.r c.args.s c.requires.passed).1.used c.in_default-number.ensures
 
 pub returns : goal.returns
 returns g c = record {
