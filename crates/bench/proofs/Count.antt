@@ -1,5 +1,5 @@
 -- A list of numbers under a function.
-use Rattle.std.proofs.Common.{◌≡◌, ℕ, ◌+◌, ◌<◌, ◌≤◌, List, [], ◌∷◌, map, refl, ap, ⊎_elim, arith}
+use Rattle.std.proofs.Common.{◌≡◌, ℕ, ◌≤◌, List, [], ◌∷◌, map, refl, ap, ⊎_elim, arith}
 use Rattle.store.specs.Numbers.{hit, times, In}
 use Rattle.store.specs.NumbersLemmas.{hit_cases, hit_self}
 

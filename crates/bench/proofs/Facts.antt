@@ -1,7 +1,6 @@
 -- What a bench that stands for some machine may ask of its store.
-use Rattle.std.proofs.Common.{◌≡◌, ℕ, ◌<◌, Bool, true, false, List, length, is_some, Some, None, Option, Result, sym, refl, ap, ◌∙◌, subst, arith}
+use Rattle.std.proofs.Common.{◌≡◌, ℕ, true, List, length, is_some, Some, None, Option, Result, arith}
 use Rattle.store.specs.Meaning.{Meaning, Few}
-use Rattle.store.specs.Rooted.{root_at}
 use Rattle.bench.specs.Standing.{Askable}
 use Rattle.bench.specs.declared.call.Call.{Call}
 use Rattle.bench.specs.declared.call.Answer.{Answer}

@@ -1,13 +1,11 @@
 -- A table in order, whose holds out are the roots, stands for some machine: a node for each cell, in the order of the cells' ranks.
-use Rattle.std.proofs.Common.{◌≡◌, ℕ, zero, suc, ◌+◌, ◌-◌, ◌<◌, ◌≤◌, cond, eqb, List, [], ◌∷◌, ◌++◌, map, length, Option, sym, refl, ap, ◌∙◌, subst, ⊎_elim, arith}
+use Rattle.std.proofs.Common.{◌≡◌, ℕ, zero, suc, ◌+◌, ◌-◌, ◌<◌, cond, eqb, List, [], ◌∷◌, ◌++◌, map, length, sym, refl, ap, ◌∙◌, subst, ⊎_elim, arith}
 use lib.ListN.{length-map}
 use Rattle.std.proofs.lemmas.List.{length-append, get_or_append_left, get_or-append-add}
 use Rattle.std.proofs.lemmas.Bool.{cases_lt, cond-true, cond_both, eq-eqb, eqb-true}
 use Rattle.store.specs.Numbers.{In}
-use Rattle.store.specs.Meaning.{Node, arity, Meaning, Reached, by_hold, Out}
-use Rattle.store.specs.Cells.{at, node_of, meaning}
-use Rattle.store.specs.Heap.{Heap}
-use Rattle.store.specs.Sound.{Okay}
+use Rattle.store.specs.Meaning.{Node, arity, Meaning, Reached, by_hold}
+use Rattle.store.specs.Cells.{at, meaning}
 use Rattle.store.specs.Rooted.{named}
 use Rattle.store.proofs.Meets.{fits_length}
 use Rattle.store.proofs.Reach.{reached_inside}

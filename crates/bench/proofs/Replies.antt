@@ -1,6 +1,6 @@
 -- What a bench does to its roots and its store is what the machine answers.
-use Rattle.std.proofs.Common.{◌≡◌, ℕ, ◌<◌, Bool, true, false, cond, eqb, List, [], ◌∷◌, ◌++◌, map, length, set, ℤ, is_some, Some, None, Ok, Err, Option, Result, sym, refl, ap, ◌∙◌, subst, ⊎_elim, arith}
-use Rattle.std.proofs.lemmas.Bool.{cases_eq, cases_Bool, eq-eqb, ne_eqb, eqb-true}
+use Rattle.std.proofs.Common.{◌≡◌, ℕ, ◌<◌, false, cond, eqb, List, [], ◌∷◌, length, set, ℤ, Some, None, Ok, Err, Option, Result, sym, refl, ap, ◌∙◌, subst, ⊎_elim}
+use Rattle.std.proofs.lemmas.Bool.{cases_Bool, eq-eqb, ne_eqb, eqb-true}
 use Rattle.store.specs.declared.fault.StoreFault.TheVariants.{NoCell}
 use Rattle.store.specs.Meaning.{Node, arity, Meaning, Reached, by_hold, less, Moved, Unchanged, Made, Full}
 use Rattle.store.specs.Rooted.{root_at}
@@ -10,15 +10,14 @@ use Rattle.bench.specs.declared.call.Answer.{Answer}
 use Rattle.bench.specs.declared.call.Answer.TheVariants.{Done, Value, OtherKind, Cell, Sameness}
 use Rattle.bench.specs.declared.fault.BenchFault.{BenchFault}
 use Rattle.bench.specs.declared.fault.BenchFault.TheVariants.{Store}
-use Rattle.bench.specs.Machine.{Machine, Shaped, spend, spent, taken, filled, node_at, copied, released, parted, made, rebuilt, live, shared}
-use Rattle.bench.specs.Picture.{root_by, node_by}
-use Rattle.bench.specs.Standing.{Standing, Stands, Room}
+use Rattle.bench.specs.Machine.{Machine, Shaped, spend, spent, taken, filled, copied, released, parted, made, rebuilt, live, shared}
+use Rattle.bench.specs.Picture.{node_by}
+use Rattle.bench.specs.Standing.{Stands, Room}
 use Rattle.bench.specs.Tests.{flags, fault_of}
 use Rattle.bench.specs.Step.{Told, act, tested, step, link_roots, node_named, node_of_root, unless_full, same_root}
-use Rattle.bench.specs.Bench.{Stood, Follows, Answers}
-use Rattle.bench.proofs.Slots.{root_there}
+use Rattle.bench.specs.Bench.{Follows, Answers}
 use Rattle.bench.proofs.Kept.{reached_found, slot_held}
-use Rattle.bench.proofs.Moves.{rest_stands, release_stands, copy_stands, part_stands, root_is, root_own}
+use Rattle.bench.proofs.Moves.{rest_stands, release_stands, copy_stands, part_stands, root_own}
 use Rattle.bench.proofs.Make.{make_stands}
 use Rattle.bench.proofs.Rebuild.{lessens, rebuild_stands}
 use Rattle.bench.proofs.Exact.{make_exact, rebuild_exact, make_open, rebuild_open}

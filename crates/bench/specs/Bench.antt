@@ -1,5 +1,5 @@
 -- What a bench keeps, and how its calls answer.
-use Rattle.std.specs.Prelude.{◌≡◌, ℕ, ◌<◌, List, length, set, Some, None, Ok, Err, Option, Result, slice_set}
+use Rattle.std.specs.Prelude.{◌≡◌, ℕ, ◌<◌, List, length, Some, None, Ok, Err, Option, Result, slice_set}
 use Rattle.store.specs.Rooted.{root_at}
 use Rattle.bench.specs.declared.call.Answer.TheVariants.{Done, Value, OtherKind, Cell, Sameness}
 use Rattle.bench.specs.declared.fault.Wanting.{Wanting}

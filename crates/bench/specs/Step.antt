@@ -1,5 +1,5 @@
 -- The node machine's step for each call: its answer, and the machine after it. n is the number of cells that it is compared with.
-use Rattle.std.specs.Prelude.{ℕ, Bool, true, false, cond, List, [], ◌∷◌, ◌++◌, ℤ, Some, None, Ok, Err, Option, Result, ◌==◌}
+use Rattle.std.specs.Prelude.{ℕ, Bool, true, false, cond, List, [], ◌∷◌, ◌++◌, Some, None, Ok, Err, Option, Result, ◌==◌}
 use Rattle.store.specs.declared.fault.StoreFault.TheVariants.{NoCell}
 use Rattle.store.specs.Meaning.{Node}
 use Rattle.store.specs.Rooted.{root_at}

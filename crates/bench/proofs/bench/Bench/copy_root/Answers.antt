@@ -1,5 +1,5 @@
-use Rattle.std.proofs.Common.{◌≡◌, ℕ, List, length, set, Some, None, Ok, Option, sym, refl, ap, ◌∙◌, subst, arith}
-use Rattle.store.specs.Meaning.{Meaning, copying}
+use Rattle.std.proofs.Common.{◌≡◌, ℕ, List, set, Some, None, Ok, Option, sym, ap, ◌∙◌, subst, arith}
+use Rattle.store.specs.Meaning.{copying}
 use Rattle.store.specs.Rooted.{root_at}
 use Rattle.bench.specs.declared.call.Call.TheVariants.{Copy}
 use Rattle.bench.specs.declared.call.Answer.TheVariants.{Done}

@@ -1,4 +1,4 @@
-use Rattle.std.proofs.Common.{◌≡◌, ℕ, Ok, Result, sym, refl, ap, ◌∙◌, subst, to_z-of_z, w32}
+use Rattle.std.proofs.Common.{◌≡◌, Ok, sym, refl, ◌∙◌, subst, to_z-of_z, w32}
 use Rattle.store.specs.Meaning.{by_hold}
 use Rattle.store.specs.Rooted.{root_at}
 use Rattle.bench.specs.declared.call.Call.TheVariants.{Look}

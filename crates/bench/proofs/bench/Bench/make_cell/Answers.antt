@@ -1,8 +1,7 @@
-use Rattle.std.proofs.Common.{◌≡◌, ℕ, ◌≤◌, true, List, length, set, is_some, Some, None, Ok, Err, Option, sym, refl, ap, ◌∙◌, subst, arith, to_z-of_z}
+use Rattle.std.proofs.Common.{◌≡◌, ℕ, List, set, Some, Ok, Err, Option, sym, ap, ◌∙◌, subst, arith, to_z-of_z}
 use Rattle.store.specs.declared.fault.Refused.{Refused}
 use Rattle.store.specs.declared.hold.Links.{Links}
-use Rattle.store.specs.Numbers.{times}
-use Rattle.store.specs.Meaning.{Meaning, Node, Few, Made, Full, Unchanged, Spare, making}
+use Rattle.store.specs.Meaning.{Node, Few, Made, Full, Unchanged, Spare, making}
 use Rattle.store.specs.Interface.{on, asked_for}
 use Rattle.store.specs.Rooted.{root_at}
 use Rattle.bench.specs.declared.call.Call.TheVariants.{Make}
@@ -10,10 +9,10 @@ use Rattle.bench.specs.declared.call.Answer.TheVariants.{Done}
 use Rattle.bench.specs.declared.fault.BenchFault.TheVariants.{Store}
 use Rattle.bench.specs.Machine.{taken, spent}
 use Rattle.bench.specs.Step.{link_roots}
-use Rattle.bench.specs.Bench.{Answers, Back, put}
+use Rattle.bench.specs.Bench.{Answers, put}
 use Rattle.bench.proofs.Facts.{asks, few_of}
 use Rattle.bench.proofs.Passes.{make_passes}
-use Rattle.bench.proofs.Taking.{Taken, links_taken, Backed}
+use Rattle.bench.proofs.Taking.{links_taken, Backed}
 use Rattle.bench.proofs.Replies.{make_replies, make_wants}
 use Rattle.bench.proofs.bench.Bench.make_cell.Goals as goal
 

@@ -1,14 +1,11 @@
-use Rattle.std.proofs.Common.{◌≡◌, ℕ, List, length, Some, None, Ok, Option, sym, refl, ap, ◌∙◌, subst, to_z-of_z, w32}
-use Rattle.store.specs.Meaning.{Meaning, by_hold, arity}
+use Rattle.std.proofs.Common.{◌≡◌, ℕ, List, length, Some, Ok, Option, sym, refl, ap, ◌∙◌, subst, to_z-of_z, w32}
+use Rattle.store.specs.Meaning.{by_hold, arity}
 use Rattle.store.specs.Rooted.{root_at}
 use Rattle.bench.specs.declared.call.Call.TheVariants.{Match}
 use Rattle.bench.specs.declared.call.Answer.{Answer}
 use Rattle.bench.specs.declared.call.Answer.TheVariants.{Value}
-use Rattle.bench.specs.Machine.{spend}
-use Rattle.bench.specs.Standing.{Room}
 use Rattle.bench.specs.Step.{link_roots}
-use Rattle.bench.specs.Tests.{flags, fault_of}
-use Rattle.bench.specs.Bench.{Stood, Answers}
+use Rattle.bench.specs.Bench.{Answers}
 use Rattle.bench.proofs.Facts.{asks, not_none}
 use Rattle.bench.proofs.Asked.{cells_shaped}
 use Rattle.bench.proofs.Passes.{match_passes, fits_arity}

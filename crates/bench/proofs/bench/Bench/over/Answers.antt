@@ -1,5 +1,4 @@
-use Rattle.std.proofs.Common.{◌≡◌, ℕ, List, [], length, replicate, None, Option, sym, refl, subst}
-use Rattle.store.specs.Meaning.{Meaning}
+use Rattle.std.proofs.Common.{ℕ, List, Option, sym, refl, subst}
 use Rattle.bench.specs.Machine.{start}
 use Rattle.bench.specs.Standing.{Stands}
 use Rattle.bench.specs.Bench.{Stood}

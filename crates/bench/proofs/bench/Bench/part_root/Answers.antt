@@ -1,8 +1,7 @@
-use Rattle.std.proofs.Common.{◌≡◌, ℕ, List, [], ◌∷◌, length, Some, None, Option, sym, refl, ap, ◌∙◌, subst}
-use Rattle.store.specs.declared.hold.Links.{Links}
+use Rattle.std.proofs.Common.{◌≡◌, ℕ, List, [], ◌∷◌, length, Some, None, Option, sym, ap, ◌∙◌, subst}
 use Rattle.store.specs.Numbers.{item}
 use Rattle.store.specs.Meaning.{Meaning, Moved, arity, by_hold, parting}
-use Rattle.store.specs.Interface.{on, Handed}
+use Rattle.store.specs.Interface.{on}
 use Rattle.store.specs.Rooted.{root_at}
 use Rattle.bench.specs.Machine.{spend, filled}
 use Rattle.bench.specs.Step.{link_roots}

@@ -1,8 +1,7 @@
-use Rattle.std.proofs.Common.{◌≡◌, ℕ, ◌<◌, ◌≤◌, true, List, length, set, is_some, Some, None, Ok, Err, Option, sym, refl, ap, ◌∙◌, subst, arith, to_z-of_z}
+use Rattle.std.proofs.Common.{◌≡◌, ℕ, ◌<◌, List, set, Some, Ok, Err, Option, sym, ap, ◌∙◌, subst, to_z-of_z}
 use Rattle.store.specs.declared.fault.RefusedRebuild.{RefusedRebuild}
 use Rattle.store.specs.declared.hold.Links.{Links}
-use Rattle.store.specs.Numbers.{times}
-use Rattle.store.specs.Meaning.{Meaning, Node, Few, Made, Full, Reached, Unchanged, Spare, less, rebuilding}
+use Rattle.store.specs.Meaning.{Node, Few, Made, Full, Reached, Unchanged, Spare, less, rebuilding}
 use Rattle.store.specs.Interface.{on, asked_for}
 use Rattle.store.specs.Rooted.{root_at}
 use Rattle.bench.specs.declared.call.Call.TheVariants.{Rebuild}
@@ -10,7 +9,7 @@ use Rattle.bench.specs.declared.call.Answer.TheVariants.{Done}
 use Rattle.bench.specs.declared.fault.BenchFault.TheVariants.{Store}
 use Rattle.bench.specs.Machine.{taken, spend, spent}
 use Rattle.bench.specs.Step.{linked, link_roots}
-use Rattle.bench.specs.Bench.{Answers, Back, put, cell_in}
+use Rattle.bench.specs.Bench.{Answers, put, cell_in}
 use Rattle.bench.proofs.Facts.{asks, few_of, not_none}
 use Rattle.bench.proofs.Passes.{RebuildPassed, rebuild_passes}
 use Rattle.bench.proofs.Slots.{spend_none, spent_keeps}

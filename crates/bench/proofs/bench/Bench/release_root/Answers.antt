@@ -1,4 +1,4 @@
-use Rattle.std.proofs.Common.{◌≡◌, ℕ, List, Ok, Option, sym, refl, ap, ◌∙◌, subst}
+use Rattle.std.proofs.Common.{ℕ, List, Ok, Option, sym, ap, subst}
 use Rattle.store.specs.Meaning.{releasing}
 use Rattle.store.specs.Rooted.{root_at}
 use Rattle.bench.specs.declared.call.Call.TheVariants.{Release}

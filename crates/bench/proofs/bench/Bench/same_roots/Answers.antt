@@ -1,4 +1,4 @@
-use Rattle.std.proofs.Common.{◌≡◌, sym, refl}
+use Rattle.std.proofs.Common.{sym, refl}
 use Rattle.store.specs.Rooted.{root_at}
 use Rattle.bench.proofs.Facts.{not_none}
 use Rattle.bench.proofs.Passes.{same_passes}

@@ -1,4 +1,4 @@
-use Rattle.std.proofs.Common.{◌≡◌, ℕ, List, length, Some, None, Ok, Err, Option, Result, sym, refl, ap, ◌∙◌, subst, to_z-of_z, w32, SFits, to_z, of_z, rules}
+use Rattle.std.proofs.Common.{◌≡◌, ℕ, List, Some, None, Ok, Err, Option, Result, sym, refl, ap, ◌∙◌, subst, to_z-of_z, w32, SFits, to_z, of_z, rules}
 use Rattle.std.proofs.lemmas.Result.{err_from_is_err_and}
 use Rattle.store.specs.Meaning.{Meaning, Asked}
 use Rattle.bench.specs.declared.call.Call.{Call}
@@ -6,9 +6,8 @@ use Rattle.bench.specs.declared.call.Call.TheVariants.{Make, Copy, Release, Matc
 use Rattle.bench.specs.declared.call.Answer.{Answer}
 use Rattle.bench.specs.declared.call.Answer.TheVariants.{Done}
 use Rattle.bench.specs.declared.fault.BenchFault.{BenchFault}
-use Rattle.bench.specs.declared.fault.BenchFault.TheVariants.{Store}
-use Rattle.bench.specs.Tests.{flags, fault_of, verdict}
-use Rattle.bench.specs.Bench.{Stood, Answers, Effect, done_or}
+use Rattle.bench.specs.Tests.{fault_of, verdict}
+use Rattle.bench.specs.Bench.{Answers, Effect, done_or}
 use Rattle.bench.proofs.Facts.{stood_after}
 use Rattle.bench.proofs.Replies.{refused}
 use Rattle.bench.proofs.bench.Bench.send.Goals as goal

@@ -1,4 +1,4 @@
-use Rattle.std.proofs.Common.{◌≡◌, length, get_or, take, pos, sym, ◌∙◌, arith}
+use Rattle.std.proofs.Common.{get_or, take, pos, arith}
 use Rattle.bench.specs.declared.call.Call.{Call}
 use Rattle.bench.specs.declared.call.Call.TheVariants.{Make}
 use Rattle.bench.specs.Lists.{after}
