@@ -24,23 +24,23 @@ short xs h = sym (cond-false (ltb 4096 (length xs)) _ _ (le-ltb 4096 (length xs)
 exact : (xs : List ℕ) → ((i : ℕ) → get_or xs i 0 < 256) → {r : Result ℕ RuleFault} → r ≡ answer xs → (n : ℕ) → (r ≡ Ok n) ↔ Allowed xs n
 exact xs b e n = let p = passes_exactly xs b n in (λ q. p.0 (sym e ∙ q), λ a. e ∙ p.1 a)
 
-pub returns-then-bytes-gt-MOST-BYTES : goal.returns-then-bytes-gt-MOST-BYTES
-returns-then-bytes-gt-MOST-BYTES c =
-    let t = long c.args.bytes.now c.if-bytes-gt-MOST-BYTES.true in
-    record { told = t; allowed = exact c.args.bytes.now (λ i. (c.type-inv.bytes i).fits) t }
+pub returns-then-bytes-gt-MOST_BYTES : goal.returns-then-bytes-gt-MOST_BYTES
+returns-then-bytes-gt-MOST_BYTES c =
+    let t = long c.args.bytes.now c.if-bytes-gt-MOST_BYTES.true in
+    record { told = t; allowed = exact c.args.bytes.now (λ i. (c.type_inv.bytes i).fits) t }
 
 pub returns-in-Err : goal.returns-in-Err
 returns-in-Err c =
-    let t = ap (λ (x : Result (Head × List ℕ) Flaw). faulted (by_head x)) c.in-Err.ensures ∙ short c.args.bytes.now c.if-bytes-gt-MOST-BYTES.false in
-    record { told = t; allowed = exact c.args.bytes.now (λ i. (c.type-inv.bytes i).fits) t }
+    let t = ap (λ (x : Result (Head × List ℕ) Flaw). faulted (by_head x)) c.in-Err.ensures ∙ short c.args.bytes.now c.if-bytes-gt-MOST_BYTES.false in
+    record { told = t; allowed = exact c.args.bytes.now (λ i. (c.type_inv.bytes i).fits) t }
 
-pub returns-in-err-n : goal.returns-in-err-n
-returns-in-err-n c =
-    let p = err_from_is_err_and c.from-residual.result c.from-residual.ensures.1 in
-    let t = p.1 ∙ ap Err p.2 ∙ ap faulted c.in-err-n.ensures ∙ ap (λ (x : Result (Head × List ℕ) Flaw). faulted (by_head x)) c.in-Ok.ensures ∙ short c.args.bytes.now c.if-bytes-gt-MOST-BYTES.false in
-    record { told = t; allowed = exact c.args.bytes.now (λ i. (c.type-inv.bytes i).fits) t }
+pub returns-in_err-n : goal.returns-in_err-n
+returns-in_err-n c =
+    let p = err_from_is_err_and c.from_residual.result c.from_residual.ensures.1 in
+    let t = p.1 ∙ ap Err p.2 ∙ ap faulted c.in_err-n.ensures ∙ ap (λ (x : Result (Head × List ℕ) Flaw). faulted (by_head x)) c.in-Ok.ensures ∙ short c.args.bytes.now c.if-bytes-gt-MOST_BYTES.false in
+    record { told = t; allowed = exact c.args.bytes.now (λ i. (c.type_inv.bytes i).fits) t }
 
 pub returns : goal.returns
 returns c =
-    let t = ap faulted c.in-ok-n.ensures ∙ ap (λ (x : Result (Head × List ℕ) Flaw). faulted (by_head x)) c.in-Ok.ensures ∙ short c.args.bytes.now c.if-bytes-gt-MOST-BYTES.false in
-    record { told = t; allowed = exact c.args.bytes.now (λ i. (c.type-inv.bytes i).fits) t }
+    let t = ap faulted c.in_ok-n.ensures ∙ ap (λ (x : Result (Head × List ℕ) Flaw). faulted (by_head x)) c.in-Ok.ensures ∙ short c.args.bytes.now c.if-bytes-gt-MOST_BYTES.false in
+    record { told = t; allowed = exact c.args.bytes.now (λ i. (c.type_inv.bytes i).fits) t }

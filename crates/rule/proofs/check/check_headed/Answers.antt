@@ -23,4 +23,4 @@ pub returns-in-None : goal.returns-in-None
 returns-in-None c =
     let h = c.args.head.now in
     let e = c.in-None.ensures ∙ told h.enter h.leave h.own c.marked-used.ensures c.marked-out.ensures c.marked-own.ensures c.either.ensures c.either-2.ensures in
-    c.check-block.ensures.told ∙ (λ i. block_answer (record { own = c.marked-own.ensures i; out = c.marked-out.ensures i }) (tree 10 c.args.rest.now) 1 0 (c.marked-used.ensures i)) ∙ ap (answered h.enter h.leave h.own c.args.rest.now) e
+    c.check_block.ensures.told ∙ (λ i. block_answer (record { own = c.marked-own.ensures i; out = c.marked-out.ensures i }) (tree 10 c.args.rest.now) 1 0 (c.marked-used.ensures i)) ∙ ap (answered h.enter h.leave h.own c.args.rest.now) e

@@ -8,6 +8,6 @@ use Rattle.rule.proofs.tests.test_fields.Goals as goal
 
 pub returns : goal.returns
 returns c =
-    c.first-flaw.ensures
-    ∙ five_same c.mark_flaw.ensures c.mark-flaw-2.ensures c.mark-flaw-3.ensures c.mark-flaw-4.ensures c.mark-flaw-5.ensures
+    c.first_flaw.ensures
+    ∙ five_same c.mark_flaw.ensures c.mark_flaw-2.ensures c.mark_flaw-3.ensures c.mark_flaw-4.ensures c.mark_flaw-5.ensures
     ∙ ap (λ (x : List (Option Flaw)). judged (first x)) (sym (five mark_flaw c.args.m.now (Root 0) c.told-m))

@@ -8,6 +8,6 @@ use Rattle.rule.proofs.tests.test_owned.Goals as goal
 
 pub returns : goal.returns
 returns c =
-    c.first-flaw.ensures
-    ∙ five_same c.own_flaw.ensures c.own-flaw-2.ensures c.own-flaw-3.ensures c.own-flaw-4.ensures c.own-flaw-5.ensures
+    c.first_flaw.ensures
+    ∙ five_same c.own_flaw.ensures c.own_flaw-2.ensures c.own_flaw-3.ensures c.own_flaw-4.ensures c.own_flaw-5.ensures
     ∙ ap (λ (x : List (Option Flaw)). judged (first x)) (sym (five (own_flaw c.args.own.now) c.args.m.now (Root 0) c.told-m))
