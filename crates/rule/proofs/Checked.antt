@@ -1,5 +1,5 @@
 -- What the check answers for the bytes of a block, by the record that is read at their front.
-use Rattle.std.proofs.Common.{◌≡◌, ℕ, suc, ◌+◌, ◌-◌, ◌<◌, ◌≤◌, Bool, true, false, eqb, List, [], ◌∷◌, length, IfOk, Some, None, Ok, Err, Option, Result, sym, refl, ap, ◌∙◌, subst, arith, Bor, true-eqb, false-eqb}
+use Rattle.std.proofs.Common.{◌≡◌, ℕ, ◌+◌, ◌-◌, ◌<◌, ◌≤◌, Bool, true, false, eqb, List, [], ◌∷◌, length, IfOk, Ok, Err, Result, sym, refl, ap, ◌∙◌, subst, arith, Bor, true-eqb, false-eqb}
 use Rattle.rule.specs.declared.fault.Flaw.{Flaw}
 use Rattle.rule.specs.declared.fault.Flaw.TheVariants.{TooMany, Trailing}
 use Rattle.rule.specs.declared.fault.Spot.{Spot}
@@ -8,7 +8,7 @@ use Rattle.rule.specs.declared.record.Record.TheVariants.{Make, Copy, Release, R
 use Rattle.rule.specs.Sheet.{Step, make, copy, release, rebuild, put, sum, difference, look, Fork}
 use Rattle.rule.specs.Read.{Rec, plain, branch, last, record_at, Tree, step, fork, done, broken, closed, before_arms, grown_at, grown, tree}
 use Rattle.rule.specs.Shown.{shown}
-use Rattle.rule.specs.Check.{Claims, step_touches, after, record_flaws, step_marks, step_links, done_flaw, at_place, first, verdict, block_answer}
+use Rattle.rule.specs.Check.{Claims, done_flaw, at_place, verdict, block_answer}
 use Rattle.rule.proofs.Grown.{tree_step, tree_err, tree_ok}
 use Rattle.rule.proofs.Walked.{place_of, answer_many, answer_broken, answer_done}
 

@@ -1,14 +1,13 @@
 -- The check's fault is the first test that fails of the first record that fails one.
 use Rattle.std.proofs.Common.{◌≡◌, ℕ, zero, suc, ◌+◌, ◌-◌, ◌<◌, ◌≤◌, Bool, true, false, cond, ltb, ◌⊎◌, List, [], ◌∷◌, ◌++◌, map, length, get_or, Some, None, Ok, Err, Option, Result, sym, refl, ap, ◌∙◌, subst, inl, inr, ⊎_elim, append_assoc, append-nil, arith}
-use Rattle.std.proofs.lemmas.Bool.{cases_lt, cases_Bool, cond-true, cond-false}
 use Rattle.rule.specs.declared.fault.Flaw.{Flaw}
 use Rattle.rule.specs.declared.fault.Spot.{Spot}
 use Rattle.rule.specs.declared.fault.RuleFault.{RuleFault}
 use Rattle.rule.specs.declared.fault.RuleFault.TheVariants.{TooLong, Flawed}
 use Rattle.rule.specs.Sheet.{Head}
-use Rattle.rule.specs.Read.{Rec, plain, branch, last, record_at, head_at, Tree, step, fork, done, broken, closed, before_arms, grown_at, grown, tree}
-use Rattle.rule.specs.Check.{Claims, marked, head_flaw, too_many, too_deep, record_flaws, step_marks, step_links, fork_marks, fork_links, after, step_touches, fork_touches, size, at_place, tests, first, verdict, headed, by_head, faulted, answer}
-use Rattle.rule.specs.Trials.{Trial, trials_in, by_head_trials, trials, Rising, AllPass, FirstIn, FirstFailing, FaultsFirst, FirstFails}
+use Rattle.rule.specs.Read.{Rec, plain, branch, last, record_at, head_at, Tree, step, fork, done, broken, closed, before_arms, grown, tree}
+use Rattle.rule.specs.Check.{Claims, marked, head_flaw, too_many, too_deep, record_flaws, step_marks, step_links, fork_marks, fork_links, after, step_touches, fork_touches, size, at_place, tests, first, verdict, by_head, faulted, answer}
+use Rattle.rule.specs.Trials.{Trial, trials_in, by_head_trials, Rising, AllPass, FirstIn, FirstFailing, FirstFails}
 use Rattle.rule.proofs.Tested.{first_on}
 use Rattle.rule.proofs.Firsts.{placed_first}
 use Rattle.rule.proofs.Grown.{some_before, shorter, tree_step}

@@ -1,12 +1,12 @@
 -- What the check answers for a block, by its first record.
-use Rattle.std.proofs.Common.{◌≡◌, ℕ, suc, ◌+◌, ◌<◌, ◌≤◌, Bool, true, false, ltb, List, [], ◌∷◌, ◌++◌, map, length, Some, None, Ok, Err, Option, Result, sym, refl, ap, ◌∙◌, subst, arith}
+use Rattle.std.proofs.Common.{◌≡◌, ℕ, suc, ◌+◌, ◌<◌, ◌≤◌, Bool, List, [], ◌∷◌, ◌++◌, map, Some, None, Ok, Err, Option, Result, refl, ap, ◌∙◌, arith}
 use Rattle.std.proofs.lemmas.Bool.{lt-ltb, le-ltb}
 use Rattle.rule.specs.declared.fault.Flaw.{Flaw}
-use Rattle.rule.specs.declared.fault.Flaw.TheVariants.{TooMany, TooDeep, NotAsDeclared}
+use Rattle.rule.specs.declared.fault.Flaw.TheVariants.{TooMany, TooDeep}
 use Rattle.rule.specs.declared.fault.Spot.{Spot}
 use Rattle.rule.specs.Sheet.{Step, Fork}
 use Rattle.rule.specs.Read.{Tree, step, fork, done, broken}
-use Rattle.rule.specs.Check.{Claims, step_marks, step_links, step_touches, fork_marks, fork_links, fork_touches, after, record_flaws, differing, differs, done_flaw, size, too_many, too_deep, unless, at_place, tests, first, verdict, block_answer}
+use Rattle.rule.specs.Check.{Claims, step_marks, step_links, step_touches, fork_marks, fork_links, fork_touches, after, record_flaws, done_flaw, size, too_many, too_deep, unless, at_place, tests, first, verdict, block_answer}
 use Rattle.rule.proofs.Tested.{first_on, first_stop}
 use Rattle.rule.proofs.Firsts.{placed_first}
 

@@ -6,7 +6,7 @@ use Rattle.bench.specs.declared.call.Touch.TheVariants.{Use, Spend, Fill}
 use Rattle.bench.specs.Tests.{in_use}
 use Rattle.rule.specs.declared.mark.Mark.{Mark}
 use Rattle.rule.specs.declared.mark.Mark.TheVariants.{Root, Link, Slot, Free}
-use Rattle.rule.specs.Sheet.{Head, Step, make, copy, release, rebuild, put, sum, difference, look, Fork, Block, step, fork, done, rule_bytes, records}
+use Rattle.rule.specs.Sheet.{Head, Step, make, copy, release, rebuild, put, sum, difference, look, Block, step, fork, done, rule_bytes, records}
 use Rattle.rule.specs.Check.{marked, step_marks, fork_marks, step_links, fork_links, step_touches, fork_touches, answer}
 
 -- a field names a root that the rule owns, or a slot; a link's root may be 255

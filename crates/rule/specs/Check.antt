@@ -12,7 +12,7 @@ use Rattle.rule.specs.declared.fault.Spot.{Spot}
 use Rattle.rule.specs.declared.fault.RuleFault.{RuleFault}
 use Rattle.rule.specs.declared.fault.RuleFault.TheVariants.{TooLong, Flawed}
 use Rattle.rule.specs.Sheet.{Head, Step, make, copy, release, rebuild, put, sum, difference, look, Fork, match, test}
-use Rattle.rule.specs.Read.{Rec, plain, branch, last, head_at, Tree, step, fork, done, broken, tree}
+use Rattle.rule.specs.Read.{head_at, Tree, step, fork, done, broken, tree}
 
 -- the k lowest bits of a number, lowest first
 abbrev pub bits : ℕ → ℕ → List Bool

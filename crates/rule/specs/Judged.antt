@@ -1,5 +1,5 @@
 -- One record, as the code judges it: its fields, links and touches, whichever record it is.
-use Rattle.std.specs.Prelude.{ℕ, Bool, true, List, [], ◌∷◌, ◌++◌, take, replicate, Some, None, Ok, Err, Option, Result}
+use Rattle.std.specs.Prelude.{Bool, true, List, [], ◌∷◌, ◌++◌, take, replicate, Some, None, Ok, Err, Option, Result}
 use Rattle.bench.specs.declared.call.Touch.{Touch}
 use Rattle.rule.specs.declared.mark.Mark.{Mark}
 use Rattle.rule.specs.declared.mark.Mark.TheVariants.{Free}

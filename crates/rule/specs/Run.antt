@@ -1,5 +1,5 @@
 -- What a run of a rule does to the node machine, and what a checked rule's run is sure of.
-use Rattle.std.specs.Prelude.{◌≡◌, ℕ, ◌+◌, ◌<◌, Bool, true, false, cond, ◌&&◌, List, [], ◌∷◌, length, replicate, ℤ, pos, negsuc, ◌+ℤ◌, ◌-ℤ◌, Some, None, Ok, Err, Option, Result, int_lt, slice_index_or, slice_set}
+use Rattle.std.specs.Prelude.{◌≡◌, ℕ, ◌+◌, Bool, true, false, cond, ◌&&◌, List, [], ◌∷◌, length, replicate, ℤ, pos, negsuc, ◌+ℤ◌, ◌-ℤ◌, Some, None, Ok, Err, Option, Result, int_lt, slice_index_or, slice_set}
 use Rattle.store.specs.Rooted.{root_at}
 use Rattle.store.specs.declared.fault.StoreFault.TheVariants.{NoCell}
 use Rattle.bench.specs.declared.call.Call.{Call}

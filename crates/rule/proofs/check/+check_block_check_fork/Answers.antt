@@ -1,18 +1,16 @@
-use Rattle.std.proofs.Common.{◌≡◌, ℕ, ◌+◌, ◌-◌, ◌<◌, ◌≤◌, Bool, true, false, List, length, Some, None, Ok, Err, Option, Result, sym, refl, ap, ◌∙◌, subst, arith}
+use Rattle.std.proofs.Common.{ℕ, ◌+◌, ◌-◌, Bool, List, length, Err, Option, sym, refl, ap, ◌∙◌, subst, arith}
 use Rattle.std.proofs.lemmas.Result.{err_from_is_err_and}
-use Rattle.rule.specs.declared.fault.Flaw.{Flaw}
 use Rattle.rule.specs.declared.fault.Flaw.TheVariants.{NotAsDeclared}
-use Rattle.rule.specs.declared.fault.Spot.{Spot}
-use Rattle.rule.specs.Sheet.{match, test, Fork}
-use Rattle.rule.specs.Read.{Rec, plain, branch, last, before_arms, Tree, fork, tree}
+use Rattle.rule.specs.Sheet.{match, test}
+use Rattle.rule.specs.Read.{Rec, tree}
 use Rattle.rule.specs.Shown.{shown}
 use Rattle.rule.specs.Claimed.{claims_of}
-use Rattle.rule.specs.Check.{step_touches, fork_touches, after, first, differs, at_place, verdict, block_answer}
+use Rattle.rule.specs.Check.{after, first, differs, at_place, verdict, block_answer}
 use Rattle.rule.specs.Judged.{rec_flaws, rec_touches}
 use Rattle.rule.proofs.Tested.{passed, refused}
 use Rattle.rule.proofs.Grown.{ArmsIn, shorter}
 use Rattle.rule.proofs.Walked.{answer_flaw, answer_step, answer_deep, fork_flaw, fork_yes, fork_no}
-use Rattle.rule.proofs.Checked.{spot, many, cut, fork_trailing, done_trailing, forked, ended, stepped, is_plain, no_count}
+use Rattle.rule.proofs.Checked.{many, cut, fork_trailing, done_trailing, forked, ended, stepped, is_plain, no_count}
 use Rattle.rule.proofs.check.+check_block_check_fork.Goals as goal
 
 pub check_block-returns-then-seen-ge-MOST_RECORDS : goal.check_block-returns-then-seen-ge-MOST_RECORDS

@@ -1,13 +1,12 @@
-use Rattle.std.proofs.Common.{◌≡◌, ℕ, ◌<◌, ◌≤◌, Bool, true, false, cond, ltb, ◌↔◌, List, length, get_or, Ok, Err, Result, sym, refl, ap, ◌∙◌, subst, arith, Fits}
+use Rattle.std.proofs.Common.{◌≡◌, ℕ, ◌<◌, ◌≤◌, ltb, ◌↔◌, List, length, get_or, Ok, Err, Result, sym, ap, ◌∙◌}
 use Rattle.std.proofs.lemmas.Result.{err_from_is_err_and}
 use Rattle.std.proofs.lemmas.Bool.{lt-ltb, le-ltb, cond-true, cond-false}
 use Rattle.rule.specs.declared.fault.Flaw.{Flaw}
-use Rattle.rule.specs.declared.fault.Spot.{Spot}
 use Rattle.rule.specs.declared.fault.RuleFault.{RuleFault}
-use Rattle.rule.specs.declared.fault.RuleFault.TheVariants.{TooLong, Flawed}
+use Rattle.rule.specs.declared.fault.RuleFault.TheVariants.{TooLong}
 use Rattle.rule.specs.Sheet.{Head}
 use Rattle.rule.specs.Read.{head_at}
-use Rattle.rule.specs.Check.{answer, faulted, by_head, headed}
+use Rattle.rule.specs.Check.{answer, faulted, by_head}
 use Rattle.rule.specs.Allowed.{Allowed}
 use Rattle.rule.proofs.Exact.{passes_exactly}
 use Rattle.rule.proofs.check.check.Goals as goal

@@ -1,8 +1,8 @@
-use Rattle.std.proofs.Common.{◌≡◌, ℕ, ◌+◌, Bool, List, ◌∷◌, Option, Result, sym, refl, ap, ◌∙◌}
+use Rattle.std.proofs.Common.{◌≡◌, ℕ, ◌+◌, Bool, List, ◌∷◌, Option, Result, ap, ◌∙◌}
 use Rattle.rule.specs.declared.fault.Flaw.TheVariants.{NotOwned}
 use Rattle.rule.specs.declared.fault.Spot.{Spot}
 use Rattle.rule.specs.Read.{tree}
-use Rattle.rule.specs.Check.{Claims, marked, either, differing, differs, at_place, first, size, tests, verdict, block_answer}
+use Rattle.rule.specs.Check.{marked, either, differing, differs, at_place, first, size, tests, verdict, block_answer}
 use Rattle.rule.proofs.check.check_headed.Goals as goal
 
 -- what the head's test finds

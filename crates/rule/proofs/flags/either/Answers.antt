@@ -1,4 +1,4 @@
-use Rattle.std.proofs.Common.{◌≡◌, refl, ◌∙◌, arith, length-set}
+use Rattle.std.proofs.Common.{refl, ◌∙◌, arith, length-set}
 use Rattle.rule.proofs.Flagged.{either_more, either_all}
 use Rattle.rule.proofs.flags.either.Goals as goal
 

@@ -1,4 +1,4 @@
-use Rattle.std.proofs.Common.{◌≡◌, refl, ◌∙◌, arith, length-set}
+use Rattle.std.proofs.Common.{refl, ◌∙◌, arith, length-set}
 use Rattle.rule.proofs.Flagged.{marks_more, marks_all}
 use Rattle.rule.proofs.flags.marked.Goals as goal
 

@@ -1,4 +1,4 @@
-use Rattle.std.proofs.Common.{◌≡◌, Some, None, sym, refl, ap, ◌∙◌, arith}
+use Rattle.std.proofs.Common.{Some, None, sym, ap, ◌∙◌, arith}
 use Rattle.rule.specs.Judged.{judged}
 use Rattle.rule.proofs.Tested.{first_here, first_end}
 use Rattle.rule.proofs.tests.first_flaw.Goals as goal

@@ -1,4 +1,4 @@
-use Rattle.std.proofs.Common.{◌≡◌, List, [], ◌∷◌, Option, sym, ap, ◌∙◌}
+use Rattle.std.proofs.Common.{List, Option, sym, ap, ◌∙◌}
 use Rattle.rule.specs.declared.fault.Flaw.{Flaw}
 use Rattle.rule.specs.declared.mark.Mark.TheVariants.{Root}
 use Rattle.rule.specs.Check.{first, mark_flaw}
