@@ -16,7 +16,7 @@ use Rattle.bench.specs.Step.{Told, tested, step, unless_full, link_roots, node_o
 use Rattle.bench.specs.Bench.{Follows, Effect}
 use Rattle.bench.specs.Tests.{flags, fault_of}
 use Rattle.bench.specs.Laws.{NodesGrow}
-use Rattle.bench.specs.Lists.{Reply, new_node, added, replies, after, wanting, Wants, Turn, Turns, ended, turned, Throughout, Served, Shown, Placed}
+use Rattle.bench.specs.Lists.{Reply, new_node, added, replies, after, wanting, Wants, Turn, Turns, ended, turned, TurnShows, Throughout, Served, Shown, Placed}
 
 -- the machine over one call more
 after_more : (n : ℕ) (t : Machine) (cs : List Call) (c : Call) → after n t (cs ++ c ∷ []) ≡ (step n (after n t cs) c).1
@@ -97,8 +97,11 @@ unfolding Throughout
 throughout f ended = tt
 throughout f (turned {t} {call} {r = r} {b = b} {c = c} x xs) = (f t call r b c x, throughout f xs)
 
-pub shown : {S : Type 0} {G : Ghosts S} {n : ℕ} {t : Machine} {calls : List Call} {rs : List Reply} {b e : Bench S} → Served G n t calls rs b e → Shown G n t calls rs b e
-shown {n = n} s = record { served = s; shows = throughout (λ t call r b e x. record { held = x.follows.stands.1.out; wants = wants n t call r x.follows.told }) s.turns }
+pub shows : {S : Type 0} {G : Ghosts S} {n : ℕ} {t : Machine} {calls : List Call} {rs : List Reply} {b e : Bench S} → (s : Served G n t calls rs b e) → Throughout (λ t call r b e. TurnShows G n t call r e) s.turns
+shows {n = n} s = throughout (λ t call r b e x. record { held = x.follows.stands.1.out; wants = wants n t call r x.follows.told }) s.turns
+
+abbrev pub shown : {S : Type 0} {G : Ghosts S} {n : ℕ} {t : Machine} {calls : List Call} {rs : List Reply} {b e : Bench S} → Served G n t calls rs b e → Shown G n t calls rs b e
+shown s = record { served = s; shows = shows s }
 
 -- what an answered list tells, told otherwise
 pub placed : (done more refused : Type 0) → (done → more) → (r : Result (Unit {0}) NoPlace) → Placed done refused r → Placed more refused r

@@ -1,16 +1,15 @@
 -- The laws of our two stores, turn by turn.
-use Rattle.std.proofs.Common.{◌≡◌, ℕ, ◌+◌, List, [], Ok, Err, Option, Result, sym, refl, ap, ◌∙◌, subst, arith}
-use Rattle.store.specs.declared.cell.Cell.{Cell}
+use Rattle.std.proofs.Common.{◌≡◌, ℕ, ◌+◌, List, [], Ok, Err, Option, sym, refl, ap, ◌∙◌, subst, arith}
 use Rattle.store.specs.declared.deferring.Deferring.{Deferring}
 use Rattle.store.specs.declared.eager.Eager.{Eager}
 use Rattle.store.specs.declared.interface.Store.{Ghosts}
 use Rattle.store.specs.Numbers.{times}
-use Rattle.store.specs.Meaning.{most_links, Asked, making, copying, releasing, parting, rebuilding, Out}
+use Rattle.store.specs.Meaning.{most_links, Asked, Out}
 use Rattle.store.specs.Cells.{at, meaning}
 use Rattle.store.specs.Heap.{Heap}
 use Rattle.store.specs.Rooted.{named}
-use Rattle.store.specs.Sound.{Okay, Clean, Changed}
-use Rattle.store.specs.Stores.{DeferringDid, EagerOkay}
+use Rattle.store.specs.Sound.{Okay, Changed}
+use Rattle.store.specs.Stores.{EagerOkay}
 use Rattle.store.specs.View.{heap}
 use Rattle.bench.specs.declared.call.Call.{Call}
 use Rattle.bench.specs.declared.call.Call.TheVariants.{Make, Copy, Release, Match, Rebuild, Look, Same}
@@ -19,7 +18,7 @@ use Rattle.bench.specs.declared.bench.Bench.{Bench}
 use Rattle.bench.specs.Machine.{Machine, Shaped, start}
 use Rattle.bench.specs.Standing.{Stands}
 use Rattle.bench.specs.Bench.{One, Effect}
-use Rattle.bench.specs.Lists.{Reply, Turn, Turns, ended, turned, Throughout, Served}
+use Rattle.bench.specs.Lists.{Reply, Served}
 use Rattle.desk.specs.Ours.{deferring, eager, Counted, DeferringLaw, EagerLaw, Lawful}
 use Rattle.desk.specs.Whole.{Tells, Sat}
 use Rattle.bench.proofs.Moves.{start_stands}

@@ -1,6 +1,7 @@
 use Rattle.std.proofs.Common.{◌≡◌, Result, subst}
 use Rattle.bench.specs.declared.fault.NoPlace.{NoPlace}
-use Rattle.bench.specs.Lists.{Placed, Served}
+use Rattle.bench.specs.Lists.{Placed, Shown}
+use Rattle.bench.proofs.Serving.{placed, shown}
 use Rattle.desk.specs.Ours.{deferring, eager, DeferringLaw, EagerLaw, Lawful}
 use Rattle.desk.proofs.Ours.{sat}
 use Rattle.desk.proofs.sitting.sit.Goals as goal
@@ -16,11 +17,11 @@ returns g c =
     let d = c.args.two.now in
     let a = c.args.any.now in
     record {
-      ok = c.send-all-3.ensures.ok;
-      stood = c.send-all-3.ensures.stood;
+      ok = c.send_all-3.ensures.ok;
+      stood = c.send_all-3.ensures.stood;
       whole = record {
-        on_deferring = sat deferring (Lawful deferring DeferringLaw) calls _ b.bench c.send-all.new.self.bench b.out (done _ _ c.in-ok-send-all.was c.send-all.ensures.served);
-        on_eager = sat eager (Lawful eager EagerLaw) calls _ d.bench c.send-all-2.new.self.bench d.out (done _ _ c.in-ok-send-all-2.was c.send-all-2.ensures.served);
-        on_any = sat g.S.Store (Served g.S.Store) calls _ a c.send-all-3.new.self c.requires.stood.stands.1.out (done _ _ c.in-ok-send-all-3.was c.send-all-3.ensures.served);
+        on_deferring = sat deferring (Lawful deferring DeferringLaw) calls _ b.bench c.send_all.new.self.bench b.out (done _ _ c.in_ok-send_all.was c.send_all.ensures.served);
+        on_eager = sat eager (Lawful eager EagerLaw) calls _ d.bench c.send_all-2.new.self.bench d.out (done _ _ c.in_ok-send_all-2.was c.send_all-2.ensures.served);
+        on_any = sat g.S.Store (Shown g.S.Store) calls _ a c.send_all-3.new.self c.requires.stood.stands.1.out (done _ _ c.in_ok-send_all-3.was (placed _ _ _ (λ f t s h. shown (f t s h)) c.send_all-3.result c.send_all-3.ensures.served));
       };
     }

@@ -5,14 +5,14 @@ use Rattle.bench.proofs.Serving.{placed}
 use Rattle.desk.proofs.Ours.{deferring_lawful}
 use Rattle.desk.proofs.deferring.DeferringBench.send_all.Goals as goal
 
-pub send-all-requires : goal.send-all-requires
-send-all-requires c =
+pub send_all-requires : goal.send_all-requires
+send_all-requires c =
     let b = c.args.self.now in
     let o = okay (heap b.bench.store.table) b.plain in
     record { ok = o; stood = ordered_stands (heap b.bench.store.table) b.bench.roots.slots o b.bench.roots.sized b.out }
 
-pub invariant-of-self : goal.invariant-of-self
-invariant-of-self c = (plain (heap c.send-all.new.self.store.table) c.send-all.ensures.ok, (c.send-all.ensures.stood.stands.1.out, tt))
+pub invariant_of-self : goal.invariant_of-self
+invariant_of-self c = record { plain = plain (heap c.send_all.new.self.store.table) c.send_all.ensures.ok; out = c.send_all.ensures.stood.stands.1.out }
 
 pub returns : goal.returns
-returns c = record { served = placed _ _ _ (λ f t s h. deferring_lawful (f t s h)) c.send-all.result c.send-all.ensures.served }
+returns c = record { served = placed _ _ _ (λ f t s h. deferring_lawful (f t s h)) c.send_all.result c.send_all.ensures.served }

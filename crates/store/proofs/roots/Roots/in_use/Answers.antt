@@ -1,4 +1,4 @@
-use Rattle.std.proofs.Common.{◌≡◌, ℕ, zero, suc, ◌<◌, false, List, [], ◌∷◌, map, length, get_or, is_some, None, Option, sym, refl, ap, ◌∙◌, arith, length-set, get_or-set_other, get_or-set_same, ext_get_or, below_more}
+use Rattle.std.proofs.Common.{◌≡◌, ℕ, zero, suc, false, List, [], ◌∷◌, map, length, get_or, is_some, None, Option, sym, refl, ap, ◌∙◌, arith, ext_get_or}
 use Rattle.store.proofs.roots.Roots.in_use.Goals as goal
 
 length_flags : (xs : List (Option ℕ)) → length (map is_some xs) ≡ length xs
@@ -9,18 +9,6 @@ flag_at : (xs : List (Option ℕ)) (k : ℕ) → get_or (map is_some xs) k false
 flag_at [] k = refl
 flag_at (x ∷ xs) zero = refl
 flag_at (x ∷ xs) (suc k) = flag_at xs k
-
-pub each-preserved : goal.each-preserved
-each-preserved c =
-    let used = c.each.used in
-    let i = c.each.i in
-    let long : length used ≡ 16 = c.each.invariant.0 in
-    let lt : i < length used = omega (arith, long, c.each-test.true) in (
-      length-set used i _ ∙ long,
-      below_more _ _
-          (λ k h. get_or-set_other used i k _ false (λ e. omega arith) ∙ c.each.invariant.1 k h)
-          (get_or-set_same used i _ false lt ∙ c.is_some.ensures),
-    )
 
 pub returns : goal.returns
 returns c =
