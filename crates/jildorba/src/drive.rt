@@ -12,8 +12,7 @@ use crate::show::{
 use bench::call::{Answer, Call};
 use bench::fault::BenchFault;
 use rule::check::check;
-use std::alloc::Global;
-use std::fmt;
+use std::alloc::{AllocError, Global};
 use store::cell::Cell;
 use store::tally::tally;
 
@@ -101,7 +100,7 @@ fn take_turn(heap: Global, script: &[&str], i: usize, out: &mut String) -> Resul
     Ok(Turn::Nothing)
 }
 
-fn ask_desk<D: Desk>(desk: &mut D, ask: &Ask, out: &mut String) -> fmt::Result {
+fn ask_desk<D: Desk>(desk: &mut D, ask: &Ask, out: &mut String) -> Result<(), AllocError> {
     match ask {
         Ask::Call(call) => {
             let answer = desk.send(call);

@@ -1,8 +1,8 @@
 use bench::call::Answer;
 use bench::fault::BenchFault;
 use rule::fault::RuleFault;
+use std::alloc::AllocError;
 use std::fmt;
-use std::fmt::Write;
 use store::cell::Cell;
 use store::fault::Report;
 
@@ -23,27 +23,30 @@ help                this list
 Roots are 0 to 15; for a link that the kind lacks write -, which stands for 255. A # starts a comment.
 ";
 
-pub fn show_help(out: &mut String) -> fmt::Result {
-    out.write_str(HELP)
+pub fn show_help(out: &mut String) -> Result<(), AllocError> {
+    out.push_str(HELP)
 }
 
-pub fn show_done(out: &mut String) -> fmt::Result {
-    out.write_str("ok\n")
+pub fn show_done(out: &mut String) -> Result<(), AllocError> {
+    out.push_str("ok\n")
 }
 
-pub fn show_answer(out: &mut String, answer: &Result<Answer, BenchFault>) -> fmt::Result {
+pub fn show_answer(
+    out: &mut String,
+    answer: &Result<Answer, BenchFault>,
+) -> Result<(), AllocError> {
     match answer {
         Ok(Answer::Done) => show_done(out),
         Ok(Answer::Value(value)) => writeln!(out, "value {value}"),
-        Ok(Answer::OtherKind) => out.write_str("other kind\n"),
+        Ok(Answer::OtherKind) => out.push_str("other kind\n"),
         Ok(Answer::Cell { kind, value }) => writeln!(out, "kind {kind} value {value}"),
-        Ok(Answer::Sameness(true)) => out.write_str("yes\n"),
-        Ok(Answer::Sameness(false)) => out.write_str("no\n"),
+        Ok(Answer::Sameness(true)) => out.push_str("yes\n"),
+        Ok(Answer::Sameness(false)) => out.push_str("no\n"),
         Err(fault) => show_report(out, &fault.report()),
     }
 }
 
-pub fn show_report(out: &mut String, report: &Report) -> fmt::Result {
+pub fn show_report(out: &mut String, report: &Report) -> Result<(), AllocError> {
     let Report {
         number,
         layer,
@@ -57,20 +60,20 @@ pub fn show_report(out: &mut String, report: &Report) -> fmt::Result {
 }
 
 // How many records a rule has, or why it is refused.
-pub fn show_verdict(out: &mut String, verdict: &Result<u16, RuleFault>) -> fmt::Result {
+pub fn show_verdict(out: &mut String, verdict: &Result<u16, RuleFault>) -> Result<(), AllocError> {
     match verdict {
         Ok(n) => writeln!(out, "records {n}"),
         Err(fault) => show_report(out, &fault.report()),
     }
 }
 
-pub fn show_tally(out: &mut String, sum: u128) -> fmt::Result {
+pub fn show_tally(out: &mut String, sum: u128) -> Result<(), AllocError> {
     writeln!(out, "tally {sum}")
 }
 
 // The roots in use, each with the cell that it names.
-pub fn show_roots(out: &mut String, roots: &[Option<u16>; 16]) -> fmt::Result {
-    out.write_str("roots")?;
+pub fn show_roots(out: &mut String, roots: &[Option<u16>; 16]) -> Result<(), AllocError> {
+    out.push_str("roots")?;
     let mut none = true;
     for (r, root) in roots.iter().enumerate() {
         if let Some(cell) = root {
@@ -79,20 +82,20 @@ pub fn show_roots(out: &mut String, roots: &[Option<u16>; 16]) -> fmt::Result {
         }
     }
     if none {
-        out.write_str(" none")?;
+        out.push_str(" none")?;
     }
-    out.write_str("\n")
+    out.push_str("\n")
 }
 
 // A line for each cell.
-pub fn show_cells(out: &mut String, cells: &[Cell]) -> fmt::Result {
+pub fn show_cells(out: &mut String, cells: &[Cell]) -> Result<(), AllocError> {
     for (i, cell) in cells.iter().enumerate() {
         show_cell(out, i, cell)?;
     }
     Ok(())
 }
 
-fn show_cell(out: &mut String, i: usize, cell: &Cell) -> fmt::Result {
+fn show_cell(out: &mut String, i: usize, cell: &Cell) -> Result<(), AllocError> {
     let Cell {
         kind,
         value,
@@ -124,6 +127,10 @@ impl fmt::Display for Place {
 }
 
 // What is said of a line that is not answered. Lines are counted from 1.
-pub fn show_trouble<T: fmt::Display + Drop>(out: &mut String, line: usize, why: T) -> fmt::Result {
+pub fn show_trouble<T: fmt::Display + Drop>(
+    out: &mut String,
+    line: usize,
+    why: T,
+) -> Result<(), AllocError> {
     writeln!(out, "line {line}: {why}")
 }
