@@ -97,10 +97,10 @@ pub fn print(rt: &HostRuntime, log: &Log) -> io::Result<()> {
 
 fn print_row(rt: &HostRuntime, row: &Row) -> io::Result<()> {
     let text = row.stage.text();
-    print!(rt, "  {text:<18}")?;
+    print!(rt; "  {text:<18}")?;
     match row.cell {
-        Some(c) => print!(rt, "{c:>4} ")?,
-        None => print!(rt, "   - ")?,
+        Some(c) => print!(rt; "{c:>4} ")?,
+        None => print!(rt; "   - ")?,
     }
     for cell in &row.cells {
         print_cell(rt, cell)?;
@@ -113,11 +113,11 @@ fn print_row(rt: &HostRuntime, row: &Row) -> io::Result<()> {
 fn print_cell(rt: &HostRuntime, cell: &Cell) -> io::Result<()> {
     let count = cell.count;
     if count > 0 {
-        return print!(rt, " {count}");
+        return print!(rt; " {count}");
     }
     if cell.link0.is_some() {
-        print!(rt, " o")
+        print!(rt; " o")
     } else {
-        print!(rt, " .")
+        print!(rt; " .")
     }
 }

@@ -34,8 +34,8 @@ copy-old-requires g c =
     let out = c.in-Ok.ensures.told (t ∷ []) (beside _ (spent c.none.result) t (none_are c.none.result c.none.ensures).0 c.requires.out) in
     record { ok = c.in-Ok.ensures.ok; few = few_out (c.in-Ok.pose.cell ∷ (t ∷ [])) out (omega arith); held = omega (arith, out t, hit_self t) }
 
-pub state-over-requires : goal.state-over-requires
-state-over-requires g c =
+pub state_over-requires : goal.state_over-requires
+state_over-requires g c =
     let t = c.args.tag.cell in
     let p = c.in-Ok.pose.cell in
     let o = c.copy-old.result.cell in

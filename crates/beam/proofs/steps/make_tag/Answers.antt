@@ -15,60 +15,60 @@ spending h l xs e o d = let q : times d (l ++ []) ≡ times d (xs ++ []) = ap (�
     times_nil [] d = refl
     times_nil (x ∷ xs) d = ap (λ n. hit d x + n) (times_nil xs d)
 
-pub returns-in-err-marked : goal.returns-in-err-marked
-returns-in-err-marked g c = record {
-  ok = c.in-err-marked.ensures.ok;
-  told = tagged_refused (g.S.Store.means c.make.new.store) c.from-residual.result c.from-residual.ensures.0 (c.in-err-marked.ensures.told [] (spending _ (spent c.none.result) [] (none_are c.none.result c.none.ensures).0 c.requires.none));
+pub returns-in_err-marked : goal.returns-in_err-marked
+returns-in_err-marked g c = record {
+  ok = c.in_err-marked.ensures.ok;
+  told = tagged_refused (g.S.Store.means c.make.new.store) c.from_residual.result c.from_residual.ensures.0 (c.in_err-marked.ensures.told [] (spending _ (spent c.none.result) [] (none_are c.none.result c.none.ensures).0 c.requires.none));
 }
 
 pub make-requires-2 : goal.make-requires-2
 make-requires-2 g c =
-    let out = c.in-ok-marked.ensures.told [] (spending _ (spent c.none.result) [] (none_are c.none.result c.none.ensures).0 c.requires.none) in
-    let l = one_are c.one.result c.in-ok-marked.marked c.one.ensures in
+    let out = c.in_ok-marked.ensures.told [] (spending _ (spent c.none.result) [] (none_are c.none.result c.none.ensures).0 c.requires.none) in
+    let l = one_are c.one.result c.in_ok-marked.marked c.one.ensures in
     record {
-      ok = c.in-ok-marked.ensures.ok;
-      few = few_out (c.in-ok-marked.marked.cell ∷ []) out (omega arith);
+      ok = c.in_ok-marked.ensures.ok;
+      few = few_out (c.in_ok-marked.marked.cell ∷ []) out (omega arith);
       fits = l.1 64 refl;
       spare = λ d. omega (arith, out d, ap (times d) l.0);
     }
 
-pub returns-in-err-weighed : goal.returns-in-err-weighed
-returns-in-err-weighed g c =
-    let out = c.in-ok-marked.ensures.told [] (spending _ (spent c.none.result) [] (none_are c.none.result c.none.ensures).0 c.requires.none) in
-    let l = one_are c.one.result c.in-ok-marked.marked c.one.ensures in
+pub returns-in_err-weighed : goal.returns-in_err-weighed
+returns-in_err-weighed g c =
+    let out = c.in_ok-marked.ensures.told [] (spending _ (spent c.none.result) [] (none_are c.none.result c.none.ensures).0 c.requires.none) in
+    let l = one_are c.one.result c.in_ok-marked.marked c.one.ensures in
     record {
-      ok = c.in-err-weighed.ensures.ok;
-      told = tagged_refused (g.S.Store.means c.make-2.new.store) c.from-residual-in-err-weighed.result c.from-residual-in-err-weighed.ensures.0 (c.in-err-weighed.ensures.told [] (spending _ (spent c.one.result) (c.in-ok-marked.marked.cell ∷ []) l.0 out));
+      ok = c.in_err-weighed.ensures.ok;
+      told = tagged_refused (g.S.Store.means c.make-2.new.store) c.from_residual-in_err-weighed.result c.from_residual-in_err-weighed.ensures.0 (c.in_err-weighed.ensures.told [] (spending _ (spent c.one.result) (c.in_ok-marked.marked.cell ∷ []) l.0 out));
     }
 
 pub make-requires-3 : goal.make-requires-3
 make-requires-3 g c =
-    let first = c.in-ok-marked.ensures.told [] (spending _ (spent c.none.result) [] (none_are c.none.result c.none.ensures).0 c.requires.none) in
-    let k = one_are c.one.result c.in-ok-marked.marked c.one.ensures in
-    let out = c.in-ok-weighed.ensures.told [] (spending _ (spent c.one.result) (c.in-ok-marked.marked.cell ∷ []) k.0 first) in
-    let l = one_are c.one-2.result c.in-ok-weighed.weighed c.one-2.ensures in
+    let first = c.in_ok-marked.ensures.told [] (spending _ (spent c.none.result) [] (none_are c.none.result c.none.ensures).0 c.requires.none) in
+    let k = one_are c.one.result c.in_ok-marked.marked c.one.ensures in
+    let out = c.in_ok-weighed.ensures.told [] (spending _ (spent c.one.result) (c.in_ok-marked.marked.cell ∷ []) k.0 first) in
+    let l = one_are c.one-2.result c.in_ok-weighed.weighed c.one-2.ensures in
     record {
-      ok = c.in-ok-weighed.ensures.ok;
-      few = few_out (c.in-ok-weighed.weighed.cell ∷ []) out (omega arith);
+      ok = c.in_ok-weighed.ensures.ok;
+      few = few_out (c.in_ok-weighed.weighed.cell ∷ []) out (omega arith);
       fits = l.1 65 refl;
       spare = λ d. omega (arith, out d, ap (times d) l.0);
     }
 
-pub returns-in-err-tag : goal.returns-in-err-tag
-returns-in-err-tag g c =
-    let first = c.in-ok-marked.ensures.told [] (spending _ (spent c.none.result) [] (none_are c.none.result c.none.ensures).0 c.requires.none) in
-    let k = one_are c.one.result c.in-ok-marked.marked c.one.ensures in
-    let out = c.in-ok-weighed.ensures.told [] (spending _ (spent c.one.result) (c.in-ok-marked.marked.cell ∷ []) k.0 first) in
-    let l = one_are c.one-2.result c.in-ok-weighed.weighed c.one-2.ensures in
+pub returns-in_err-tag : goal.returns-in_err-tag
+returns-in_err-tag g c =
+    let first = c.in_ok-marked.ensures.told [] (spending _ (spent c.none.result) [] (none_are c.none.result c.none.ensures).0 c.requires.none) in
+    let k = one_are c.one.result c.in_ok-marked.marked c.one.ensures in
+    let out = c.in_ok-weighed.ensures.told [] (spending _ (spent c.one.result) (c.in_ok-marked.marked.cell ∷ []) k.0 first) in
+    let l = one_are c.one-2.result c.in_ok-weighed.weighed c.one-2.ensures in
     record {
-      ok = c.in-err-tag.ensures.ok;
-      told = tagged_refused (g.S.Store.means c.make-3.new.store) c.from-residual-in-err-tag.result c.from-residual-in-err-tag.ensures.0 (c.in-err-tag.ensures.told [] (spending _ (spent c.one-2.result) (c.in-ok-weighed.weighed.cell ∷ []) l.0 out));
+      ok = c.in_err-tag.ensures.ok;
+      told = tagged_refused (g.S.Store.means c.make-3.new.store) c.from_residual-in_err-tag.result c.from_residual-in_err-tag.ensures.0 (c.in_err-tag.ensures.told [] (spending _ (spent c.one-2.result) (c.in_ok-weighed.weighed.cell ∷ []) l.0 out));
     }
 
 pub returns : goal.returns
 returns g c =
-    let first = c.in-ok-marked.ensures.told [] (spending _ (spent c.none.result) [] (none_are c.none.result c.none.ensures).0 c.requires.none) in
-    let k = one_are c.one.result c.in-ok-marked.marked c.one.ensures in
-    let out = c.in-ok-weighed.ensures.told [] (spending _ (spent c.one.result) (c.in-ok-marked.marked.cell ∷ []) k.0 first) in
-    let l = one_are c.one-2.result c.in-ok-weighed.weighed c.one-2.ensures in
-    record { ok = c.in-ok-tag.ensures.ok; told = c.in-ok-tag.ensures.told [] (spending _ (spent c.one-2.result) (c.in-ok-weighed.weighed.cell ∷ []) l.0 out) }
+    let first = c.in_ok-marked.ensures.told [] (spending _ (spent c.none.result) [] (none_are c.none.result c.none.ensures).0 c.requires.none) in
+    let k = one_are c.one.result c.in_ok-marked.marked c.one.ensures in
+    let out = c.in_ok-weighed.ensures.told [] (spending _ (spent c.one.result) (c.in_ok-marked.marked.cell ∷ []) k.0 first) in
+    let l = one_are c.one-2.result c.in_ok-weighed.weighed c.one-2.ensures in
+    record { ok = c.in_ok-tag.ensures.ok; told = c.in_ok-tag.ensures.told [] (spending _ (spent c.one-2.result) (c.in_ok-weighed.weighed.cell ∷ []) l.0 out) }

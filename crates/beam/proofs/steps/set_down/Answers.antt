@@ -22,8 +22,8 @@ part-links-requires g c =
     let s = c.args.lift.state.cell in
     record { ok = c.requires.ok; few = few_out (c.args.lift.tag.cell ∷ (c.args.lift.pose.cell ∷ (s ∷ []))) c.requires.carried.out (omega arith); held = omega (arith, c.requires.carried.out s, hit_self s) }
 
-pub release-links-requires : goal.release-links-requires
-release-links-requires g c =
+pub release_links-requires : goal.release_links-requires
+release_links-requires g c =
     let t = c.args.lift.tag.cell in
     let p = c.args.lift.pose.cell in
     let s = c.args.lift.state.cell in
@@ -45,8 +45,8 @@ release-requires g c =
     let e = c.requires.carried.links in
     let out = parted _ _ t p s _ c.requires.carried.out e c.part-links.ensures.told.held in
     let l = handed_are c.part-links.result _ t p c.part-links.ensures.handed e in
-    let two = ended _ _ t p (spent c.part-links.result) out l c.release-links.ensures.ended in
-    record { ok = c.release-links.ensures.ok; few = few_out (t ∷ (p ∷ [])) two (omega arith); held = omega (arith, two p, hit_self p) }
+    let two = ended _ _ t p (spent c.part-links.result) out l c.release_links.ensures.ended in
+    record { ok = c.release_links.ensures.ok; few = few_out (t ∷ (p ∷ [])) two (omega arith); held = omega (arith, two p, hit_self p) }
 
 pub release-requires-2 : goal.release-requires-2
 release-requires-2 g c =
@@ -56,7 +56,7 @@ release-requires-2 g c =
     let e = c.requires.carried.links in
     let out = parted _ _ t p s _ c.requires.carried.out e c.part-links.ensures.told.held in
     let l = handed_are c.part-links.result _ t p c.part-links.ensures.handed e in
-    let two = ended _ _ t p (spent c.part-links.result) out l c.release-links.ensures.ended in
+    let two = ended _ _ t p (spent c.part-links.result) out l c.release_links.ensures.ended in
     let one = moved_out (t ∷ (p ∷ [])) (t ∷ []) two c.release.ensures.told (λ d. omega arith) in
     record { ok = c.release.ensures.ok; few = few_out (t ∷ []) one (omega arith); held = omega (arith, one t, hit_self t) }
 
@@ -68,6 +68,6 @@ returns g c =
     let e = c.requires.carried.links in
     let out = parted _ _ t p s _ c.requires.carried.out e c.part-links.ensures.told.held in
     let l = handed_are c.part-links.result _ t p c.part-links.ensures.handed e in
-    let two = ended _ _ t p (spent c.part-links.result) out l c.release-links.ensures.ended in
+    let two = ended _ _ t p (spent c.part-links.result) out l c.release_links.ensures.ended in
     let one = moved_out (t ∷ (p ∷ [])) (t ∷ []) two c.release.ensures.told (λ d. omega arith) in
     record { ok = c.release-2.ensures.ok; none = moved_out (t ∷ []) [] one c.release-2.ensures.told (λ d. omega arith) }

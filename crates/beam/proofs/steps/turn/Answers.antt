@@ -22,8 +22,8 @@ make-requires g c =
       spare = λ d. omega (arith, out d, ap (times d) l.0);
     }
 
-pub state-over-requires : goal.state-over-requires
-state-over-requires g c =
+pub state_over-requires : goal.state_over-requires
+state_over-requires g c =
     let t = c.args.lift.tag.cell in
     let s = c.args.lift.state.cell in
     let n = c.in-Ok.pose.cell in
