@@ -1,6 +1,6 @@
 -- Which holds are out after a call.
-use Rattle.std.proofs.Common.{◌≡◌, ℕ, ◌+◌, ◌<◌, ◌≤◌, true, leb, List, [], ◌∷◌, ◌++◌, length, is_err, Some, None, Ok, Err, Result, sym, refl, ap, ◌∙◌, subst, arith}
-use Rattle.store.specs.Numbers.{hit, times}
+use Rattle.std.proofs.Common.{◌≡◌, ℕ, ◌+◌, ◌<◌, ◌≤◌, true, leb, List, [], ◌∷◌, length, is_err, Some, None, Ok, Err, Result, sym, ap, ◌∙◌, subst, arith}
+use Rattle.store.specs.Numbers.{times}
 use Rattle.store.specs.Meaning.{Meaning, Moved, Out, Few, arity}
 use Rattle.store.specs.declared.hold.Hold.{Hold}
 use Rattle.store.specs.declared.hold.Links.{Links}

@@ -1,10 +1,8 @@
-use Rattle.std.proofs.Common.{◌≡◌, ℕ, List, [], ◌∷◌, ◌++◌, sym, refl, ap, ◌∙◌, subst, arith}
-use Rattle.store.specs.declared.hold.Links.{Links}
+use Rattle.std.proofs.Common.{◌≡◌, ℕ, List, [], ◌∷◌, ◌++◌, sym, refl, ap, ◌∙◌, arith}
 use Rattle.store.specs.Numbers.{hit, times}
-use Rattle.store.specs.Interface.{Fits, spent}
-use Rattle.store.specs.Meaning.{Meaning, Out}
+use Rattle.store.specs.Interface.{spent}
 use Rattle.store.specs.NumbersLemmas.{hit_self}
-use Rattle.beam.proofs.Outs.{few_out, moved_out, reordered, none_are}
+use Rattle.beam.proofs.Outs.{few_out, moved_out, none_are}
 use Rattle.beam.proofs.steps.hook.Goals as goal
 
 -- a make that spends nothing leaves the tag out

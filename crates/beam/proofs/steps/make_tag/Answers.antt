@@ -1,10 +1,7 @@
-use Rattle.std.proofs.Common.{◌≡◌, ℕ, ◌+◌, List, [], ◌∷◌, ◌++◌, sym, refl, ap, ◌∙◌, subst, arith}
-use Rattle.store.specs.declared.hold.Links.{Links}
+use Rattle.std.proofs.Common.{◌≡◌, ℕ, ◌+◌, List, [], ◌∷◌, ◌++◌, refl, ap, arith}
 use Rattle.store.specs.Numbers.{hit, times}
-use Rattle.store.specs.Interface.{Fits, spent}
-use Rattle.store.specs.Meaning.{Meaning, Out}
-use Rattle.store.specs.NumbersLemmas.{hit_self}
-use Rattle.beam.proofs.Outs.{few_out, reordered, none_are, one_are, tagged_refused}
+use Rattle.store.specs.Interface.{spent}
+use Rattle.beam.proofs.Outs.{few_out, none_are, one_are, tagged_refused}
 use Rattle.beam.proofs.steps.make_tag.Goals as goal
 
 -- the holds out, as a make spends them

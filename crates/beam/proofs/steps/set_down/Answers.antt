@@ -1,12 +1,9 @@
-use Rattle.std.proofs.Common.{◌≡◌, ℕ, ◌+◌, List, [], ◌∷◌, ◌++◌, Option, sym, refl, ap, ◌∙◌, subst, arith}
+use Rattle.std.proofs.Common.{◌≡◌, ℕ, ◌+◌, List, [], ◌∷◌, ◌++◌, ap, ◌∙◌, arith}
 use Rattle.store.specs.declared.hold.Links.{Links}
-use Rattle.store.specs.Numbers.{hit, times}
-use Rattle.store.specs.Interface.{Fits, spent}
-use Rattle.store.specs.Meaning.{Meaning, Out}
+use Rattle.store.specs.Numbers.{times, opt, item}
+use Rattle.store.specs.Interface.{Handed, spent}
 use Rattle.store.specs.NumbersLemmas.{hit_self}
-use Rattle.store.specs.Numbers.{opt, item}
-use Rattle.store.specs.Interface.{Handed}
-use Rattle.beam.proofs.Outs.{few_out, moved_out, reordered}
+use Rattle.beam.proofs.Outs.{few_out, moved_out}
 use Rattle.beam.proofs.steps.set_down.Goals as goal
 
 -- the links handed over are the tag and the pose

@@ -1,7 +1,7 @@
-use Rattle.std.proofs.Common.{◌≡◌, ℕ, ◌+◌, ◌<◌, ◌≤◌, List, [], ◌∷◌, ◌++◌, Some, sym, refl, ap, ◌∙◌, subst, arith}
+use Rattle.std.proofs.Common.{◌≡◌, ℕ, List, [], ◌∷◌, ◌++◌, Some, sym, refl, ap, ◌∙◌, subst, arith}
 use Rattle.store.specs.declared.hold.Hold.{Hold}
 use Rattle.store.specs.declared.hold.Links.{Links}
-use Rattle.store.specs.Numbers.{hit, times}
+use Rattle.store.specs.Numbers.{times}
 use Rattle.store.specs.Interface.{Fits, spent}
 use Rattle.store.specs.Meaning.{Meaning, Moved, Out}
 use Rattle.store.specs.NumbersLemmas.{hit_self}

@@ -1,8 +1,6 @@
-use Rattle.std.proofs.Common.{◌≡◌, ℕ, List, [], ◌∷◌, ◌++◌, sym, refl, ap, ◌∙◌, subst, arith}
-use Rattle.store.specs.declared.hold.Links.{Links}
-use Rattle.store.specs.Numbers.{hit, times}
-use Rattle.store.specs.Interface.{Fits, spent}
-use Rattle.store.specs.Meaning.{Meaning, Out}
+use Rattle.std.proofs.Common.{◌≡◌, ℕ, List, [], ◌∷◌, ◌++◌, ap, arith}
+use Rattle.store.specs.Numbers.{times}
+use Rattle.store.specs.Interface.{spent}
 use Rattle.store.specs.NumbersLemmas.{hit_self}
 use Rattle.beam.proofs.Outs.{few_out, moved_out, reordered, one_are}
 use Rattle.beam.proofs.steps.turn.Goals as goal
