@@ -1,5 +1,5 @@
 -- Which holds are out after a call.
-use Rattle.std.proofs.Common.{◌≡◌, ℕ, ◌+◌, ◌<◌, ◌≤◌, true, List, [], ◌∷◌, length, is_err, Some, None, Ok, Err, Result, ap, ◌∙◌, arith}
+use Rattle.std.proofs.Common.{◌≡◌, ℕ, ◌+◌, ◌≤◌, true, List, [], ◌∷◌, length, is_err, Some, None, Ok, Err, Result, ap, ◌∙◌, arith}
 use Rattle.store.specs.Numbers.{times}
 use Rattle.store.specs.Meaning.{Meaning, Moved, Out, Few}
 use Rattle.store.specs.declared.hold.Hold.{Hold}
@@ -7,13 +7,9 @@ use Rattle.store.specs.declared.hold.Links.{Links}
 use Rattle.store.specs.declared.fault.StoreFault.{StoreFault}
 use Rattle.store.specs.Interface.{spent}
 use Rattle.beam.specs.Carried.{Tagged}
-use Rattle.store.specs.NumbersLemmas.{hit_self}
 
 pub few_out : {m : Meaning} (xs : List ℕ) → Out m xs → length xs ≤ 1000 → Few m
 few_out xs o l = record { all = xs; most = l; within = λ c. omega (arith, o c) }
-
-pub held_out : (m : Meaning) (c : ℕ) (xs : List ℕ) → Out m (c ∷ xs) → 0 < m.holds c
-held_out m c xs o = omega (arith, o c, hit_self c)
 
 -- the spent go from the list and the given come to it
 pub moved_out : {m n : Meaning} {spent given : List ℕ} (xs ys : List ℕ) → Out m xs → Moved m n spent given → ((d : ℕ) → times d xs + times d given ≡ times d ys + times d spent) → Out n ys
