@@ -7,7 +7,7 @@ mod steps;
 #[cfg(test)]
 mod trials;
 
-ghost use Rattle.std.specs.Prelude.{◌≡◌, []};
+ghost use Rattle.std.specs.Prelude.{[]};
 ghost use Rattle.store.specs.Meaning.{Out};
 
 use anyhow::anyhow;

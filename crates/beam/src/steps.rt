@@ -1,4 +1,4 @@
-ghost use Rattle.std.specs.Prelude.{◌≡◌, ℕ, ◌+◌, ◌<◌, ◌≤◌, List, [], ◌∷◌, ◌++◌};
+ghost use Rattle.std.specs.Prelude.{◌≡◌, ℕ, ◌+◌, ◌<◌, [], ◌∷◌};
 ghost use Rattle.store.specs.Numbers.{times, opt};
 ghost use Rattle.store.specs.Meaning.{Few, Out, Spare, less, arity};
 ghost use Rattle.store.specs.Interface.{Fits, spent, on};
