@@ -134,7 +134,7 @@ check_block-records-preserved t c =
 
 pub check_fork-returns-then-depth-ge-DEEPEST : goal.check_fork-returns-then-depth-ge-DEEPEST
 check_fork-returns-then-depth-ge-DEEPEST t c = record {
-  told = λ f e b. c.refuse.ensures ∙ sym (answer_deep (claims_of c.args.claims.now) c.args.seen c.args.depth c.args.used (omega (arith, c.requires.few)) c.args.place f _ _ c.if-depth-ge-DEEPEST.true);
+  told = λ f e b. c.refuse.ensures ∙ sym (answer_deep (claims_of c.args.claims.now) c.args.seen c.args.depth c.args.used (omega (arith, c.requires.few)) c.args.place f _ _ (omega arith));
   few = no_count _ c.refuse.ensures;
 }
 
@@ -144,7 +144,7 @@ check_fork-returns-in-Err t c =
     let q = refused (first (rec_flaws h.own (shown c.args.rec.now) c.args.used)) c.in-Err.flaw (sym c.in-Err.ensures.told) in
     record {
       told = λ f e b. c.refuse-in-Err.ensures
-          ∙ sym (fork_flaw h c.args.seen c.args.depth c.args.used (omega (arith, c.requires.few)) c.args.place f _ _ c.if-depth-ge-DEEPEST.false c.in-Err.flaw (ap (λ (r : Rec). first (rec_flaws h.own r c.args.used)) (sym e) ∙ q));
+          ∙ sym (fork_flaw h c.args.seen c.args.depth c.args.used (omega (arith, c.requires.few)) c.args.place f _ _ (omega arith) c.in-Err.flaw (ap (λ (r : Rec). first (rec_flaws h.own r c.args.used)) (sym e) ∙ q));
       few = no_count _ c.refuse-in-Err.ensures;
     }
 
@@ -159,7 +159,7 @@ check_fork-returns-in_err-n t c =
       told = λ f e b.
           (let v = c.in-Ok.ensures.after refl ∙ ap (λ (x : Rec). after (rec_touches x) used) e in
           let a = c.in_err-n.ensures.told ∙ (λ i. block_answer h (tree (c.args.place + b i) c.args.yes.now) (c.args.seen + 1) (c.args.depth + 1) (v i)) in
-          z ∙ sym (fork_yes h c.args.seen c.args.depth used (omega (arith, c.requires.few)) c.args.place f _ _ c.if-depth-ge-DEEPEST.false (ap (λ (x : Rec). first (rec_flaws h.own x used)) (sym e) ∙ q) _ (sym a)));
+          z ∙ sym (fork_yes h c.args.seen c.args.depth used (omega (arith, c.requires.few)) c.args.place f _ _ (omega arith) (ap (λ (x : Rec). first (rec_flaws h.own x used)) (sym e) ∙ q) _ (sym a)));
       few = no_count _ z;
     }
 
@@ -175,7 +175,7 @@ check_fork-returns-in_err-m t c =
           (let v = c.in-Ok.ensures.after refl ∙ ap (λ (x : Rec). after (rec_touches x) used) e in
           let a = c.in_ok-n.ensures.told ∙ (λ i. block_answer h (tree (c.args.place + b i) c.args.yes.now) (c.args.seen + 1) (c.args.depth + 1) (v i)) in
           let o = c.in_err-m.ensures.told ∙ (λ i. block_answer h (tree (c.args.place + b i + length c.args.yes.now) c.args.no.now) c.in_ok-n.n (c.args.depth + 1) used) in
-          z ∙ o ∙ sym (fork_no h c.args.seen c.args.depth used (omega (arith, c.requires.few)) c.args.place f _ _ c.if-depth-ge-DEEPEST.false (ap (λ (x : Rec). first (rec_flaws h.own x used)) (sym e) ∙ q) c.in_ok-n.n (sym a)));
+          z ∙ o ∙ sym (fork_no h c.args.seen c.args.depth used (omega (arith, c.requires.few)) c.args.place f _ _ (omega arith) (ap (λ (x : Rec). first (rec_flaws h.own x used)) (sym e) ∙ q) c.in_ok-n.n (sym a)));
       few = no_count _ z;
     }
 
@@ -189,6 +189,6 @@ check_fork-returns t c =
           (let v = c.in-Ok.ensures.after refl ∙ ap (λ (x : Rec). after (rec_touches x) used) e in
           let a = c.in_ok-n.ensures.told ∙ (λ i. block_answer h (tree (c.args.place + b i) c.args.yes.now) (c.args.seen + 1) (c.args.depth + 1) (v i)) in
           let o = c.in_ok-m.ensures.told ∙ (λ i. block_answer h (tree (c.args.place + b i + length c.args.yes.now) c.args.no.now) c.in_ok-n.n (c.args.depth + 1) used) in
-          o ∙ sym (fork_no h c.args.seen c.args.depth used (omega (arith, c.requires.few)) c.args.place f _ _ c.if-depth-ge-DEEPEST.false (ap (λ (x : Rec). first (rec_flaws h.own x used)) (sym e) ∙ q) c.in_ok-n.n (sym a)));
+          o ∙ sym (fork_no h c.args.seen c.args.depth used (omega (arith, c.requires.few)) c.args.place f _ _ (omega arith) (ap (λ (x : Rec). first (rec_flaws h.own x used)) (sym e) ∙ q) c.in_ok-n.n (sym a)));
       few = c.in_ok-m.ensures.few;
     }

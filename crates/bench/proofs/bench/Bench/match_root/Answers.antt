@@ -1,4 +1,4 @@
-use Rattle.std.proofs.Common.{◌≡◌, ℕ, List, length, Some, Ok, Option, sym, refl, ap, ◌∙◌, subst, to_z-of_z, w32}
+use Rattle.std.proofs.Common.{◌≡◌, ◌≢◌, ℕ, List, length, Some, Ok, Option, sym, refl, ap, ◌∙◌, subst, to_z-of_z, w32}
 use Rattle.store.specs.Meaning.{by_hold, arity}
 use Rattle.store.specs.Rooted.{root_at}
 use Rattle.bench.specs.declared.call.Call.TheVariants.{Match}
@@ -26,10 +26,11 @@ value-value-requires g c = record { ok = c.requires.ok; reached = by_hold ((asks
 pub returns-then-kind : goal.returns-then-kind
 returns-then-kind g c =
     let m = g.S.Store.means c.args.self.now.store in
+    let other : c.kind.result ≢ c.args.kind = c.if-kind.true in
     record {
       ok = c.requires.ok;
       effect = (refl, g.S.Store.rests c.args.self.now.store);
-      told = match_other c.args.self.now.roots.slots m c.args.r c.args.kind c.args.a c.args.b c.in-Some.c c.requires.passed (sym c.in-Some.ensures) (λ q. c.if-kind.true (c.kind.ensures ∙ q));
+      told = match_other c.args.self.now.roots.slots m c.args.r c.args.kind c.args.a c.args.b c.in-Some.c c.requires.passed (sym c.in-Some.ensures) (λ q. other (c.kind.ensures ∙ q));
     }
 
 -- the root names one cell
