@@ -6,12 +6,6 @@ use std::fmt;
 #[derive(Clone, Copy, Debug)]
 pub struct NoMemory;
 
-impl From<fmt::Error> for NoMemory {
-    fn from(_e: fmt::Error) -> NoMemory {
-        NoMemory
-    }
-}
-
 impl From<AllocError> for NoMemory {
     fn from(_e: AllocError) -> NoMemory {
         NoMemory
