@@ -7,7 +7,7 @@ A name is the repository's own where it is defined in specs/ or proofs/: at the 
 constructor, and then it is respelled in every file; or as a parameter or a local name, and then in its own file alone.
 Names that the checker makes (goals, places and values of a walk) and names of the library keep their hyphens, and so
 do file names, functions of src/, strings and comments; in comments, in docs/ and in the README a name is respelled where
-it stands between back quotes. What falls together with another name of the same file is said, and nothing is written; a module of a path and
+it stands between back quotes, but in docs/PORT.md, which has old names beside new ones. What falls together with another name of the same file is said, and nothing is written; a module of a path and
 a function of src/ are no such names.
 """
 
@@ -112,7 +112,7 @@ def main(argv):
         quoted = lambda s: re.sub(r"`[^`\n]*`", lambda m: turn(m.group()), s)
         out[p] = "\n".join(turn(c) + quoted(k) for c, k in lines_of_code(t, mark))
     words = {m.group() for t in out.values() for m in TOKEN.finditer(t)}
-    for p in ["README.md"] + [os.path.join("docs", f) for f in sorted(os.listdir("docs")) if f.endswith(".md")]:
+    for p in ["README.md"] + [os.path.join("docs", f) for f in sorted(os.listdir("docs")) if f.endswith(".md") and f != "PORT.md"]:
         t = open(p, encoding="utf-8").read()
         turn = lambda m: TOKEN.sub(lambda k: spelled(k.group()) if k.group() in everywhere or (wrong(k.group()) and spelled(k.group()) in words) else k.group(), m.group())
         texts[p] = t
