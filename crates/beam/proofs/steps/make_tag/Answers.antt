@@ -15,24 +15,24 @@ spending h l xs e o d = let q : times d (l ++ []) ≡ times d (xs ++ []) = ap (�
 pub returns-in_err-marked : goal.returns-in_err-marked
 returns-in_err-marked g c = record {
   ok = c.in_err-marked.ensures.ok;
-  told = tagged_refused (g.S.Store.means c.make.new.store) c.from_residual.result c.from_residual.ensures.0 (c.in_err-marked.ensures.told [] (spending _ (spent c.none.result) [] (none_are c.none.result c.none.ensures) c.requires.none));
+  told = tagged_refused (g.S.Store.means c.make.new.store) c.from_residual.result c.from_residual.ensures.0 (c.in_err-marked.ensures.told [] (spending _ (spent c.none.result) [] (none_are c.none.result c.none.ensures).0 c.requires.none));
 }
 
 pub make-requires-2-clause-few : goal.make-requires-2-clause-few
 make-requires-2-clause-few g c =
-    let out = c.in_ok-marked.ensures.told [] (spending _ (spent c.none.result) [] (none_are c.none.result c.none.ensures) c.requires.none) in
+    let out = c.in_ok-marked.ensures.told [] (spending _ (spent c.none.result) [] (none_are c.none.result c.none.ensures).0 c.requires.none) in
     few_out (c.in_ok-marked.marked.cell ∷ []) out (omega arith)
 
 pub make-requires-2-clause-spare : goal.make-requires-2-clause-spare
 make-requires-2-clause-spare g c =
-    let out = c.in_ok-marked.ensures.told [] (spending _ (spent c.none.result) [] (none_are c.none.result c.none.ensures) c.requires.none) in
-    let l = one_are c.one.result c.in_ok-marked.marked c.one.ensures in
+    let out = c.in_ok-marked.ensures.told [] (spending _ (spent c.none.result) [] (none_are c.none.result c.none.ensures).0 c.requires.none) in
+    let l = (one_are c.one.result c.in_ok-marked.marked c.one.ensures).0 in
     λ d. omega (arith, out d, ap (times d) l)
 
 pub returns-in_err-weighed : goal.returns-in_err-weighed
 returns-in_err-weighed g c =
-    let out = c.in_ok-marked.ensures.told [] (spending _ (spent c.none.result) [] (none_are c.none.result c.none.ensures) c.requires.none) in
-    let l = one_are c.one.result c.in_ok-marked.marked c.one.ensures in
+    let out = c.in_ok-marked.ensures.told [] (spending _ (spent c.none.result) [] (none_are c.none.result c.none.ensures).0 c.requires.none) in
+    let l = (one_are c.one.result c.in_ok-marked.marked c.one.ensures).0 in
     record {
       ok = c.in_err-weighed.ensures.ok;
       told = tagged_refused (g.S.Store.means c.make-2.new.store) c.from_residual-in_err-weighed.result c.from_residual-in_err-weighed.ensures.0 (c.in_err-weighed.ensures.told [] (spending _ (spent c.one.result) (c.in_ok-marked.marked.cell ∷ []) l out));
@@ -40,25 +40,25 @@ returns-in_err-weighed g c =
 
 pub make-requires-3-clause-few : goal.make-requires-3-clause-few
 make-requires-3-clause-few g c =
-    let first = c.in_ok-marked.ensures.told [] (spending _ (spent c.none.result) [] (none_are c.none.result c.none.ensures) c.requires.none) in
-    let k = one_are c.one.result c.in_ok-marked.marked c.one.ensures in
+    let first = c.in_ok-marked.ensures.told [] (spending _ (spent c.none.result) [] (none_are c.none.result c.none.ensures).0 c.requires.none) in
+    let k = (one_are c.one.result c.in_ok-marked.marked c.one.ensures).0 in
     let out = c.in_ok-weighed.ensures.told [] (spending _ (spent c.one.result) (c.in_ok-marked.marked.cell ∷ []) k first) in
     few_out (c.in_ok-weighed.weighed.cell ∷ []) out (omega arith)
 
 pub make-requires-3-clause-spare : goal.make-requires-3-clause-spare
 make-requires-3-clause-spare g c =
-    let first = c.in_ok-marked.ensures.told [] (spending _ (spent c.none.result) [] (none_are c.none.result c.none.ensures) c.requires.none) in
-    let k = one_are c.one.result c.in_ok-marked.marked c.one.ensures in
+    let first = c.in_ok-marked.ensures.told [] (spending _ (spent c.none.result) [] (none_are c.none.result c.none.ensures).0 c.requires.none) in
+    let k = (one_are c.one.result c.in_ok-marked.marked c.one.ensures).0 in
     let out = c.in_ok-weighed.ensures.told [] (spending _ (spent c.one.result) (c.in_ok-marked.marked.cell ∷ []) k first) in
-    let l = one_are c.one-2.result c.in_ok-weighed.weighed c.one-2.ensures in
+    let l = (one_are c.one-2.result c.in_ok-weighed.weighed c.one-2.ensures).0 in
     λ d. omega (arith, out d, ap (times d) l)
 
 pub returns-in_err-tag : goal.returns-in_err-tag
 returns-in_err-tag g c =
-    let first = c.in_ok-marked.ensures.told [] (spending _ (spent c.none.result) [] (none_are c.none.result c.none.ensures) c.requires.none) in
-    let k = one_are c.one.result c.in_ok-marked.marked c.one.ensures in
+    let first = c.in_ok-marked.ensures.told [] (spending _ (spent c.none.result) [] (none_are c.none.result c.none.ensures).0 c.requires.none) in
+    let k = (one_are c.one.result c.in_ok-marked.marked c.one.ensures).0 in
     let out = c.in_ok-weighed.ensures.told [] (spending _ (spent c.one.result) (c.in_ok-marked.marked.cell ∷ []) k first) in
-    let l = one_are c.one-2.result c.in_ok-weighed.weighed c.one-2.ensures in
+    let l = (one_are c.one-2.result c.in_ok-weighed.weighed c.one-2.ensures).0 in
     record {
       ok = c.in_err-tag.ensures.ok;
       told = tagged_refused (g.S.Store.means c.make-3.new.store) c.from_residual-in_err-tag.result c.from_residual-in_err-tag.ensures.0 (c.in_err-tag.ensures.told [] (spending _ (spent c.one-2.result) (c.in_ok-weighed.weighed.cell ∷ []) l out));
@@ -66,8 +66,8 @@ returns-in_err-tag g c =
 
 pub returns : goal.returns
 returns g c =
-    let first = c.in_ok-marked.ensures.told [] (spending _ (spent c.none.result) [] (none_are c.none.result c.none.ensures) c.requires.none) in
-    let k = one_are c.one.result c.in_ok-marked.marked c.one.ensures in
+    let first = c.in_ok-marked.ensures.told [] (spending _ (spent c.none.result) [] (none_are c.none.result c.none.ensures).0 c.requires.none) in
+    let k = (one_are c.one.result c.in_ok-marked.marked c.one.ensures).0 in
     let out = c.in_ok-weighed.ensures.told [] (spending _ (spent c.one.result) (c.in_ok-marked.marked.cell ∷ []) k first) in
-    let l = one_are c.one-2.result c.in_ok-weighed.weighed c.one-2.ensures in
+    let l = (one_are c.one-2.result c.in_ok-weighed.weighed c.one-2.ensures).0 in
     record { ok = c.in_ok-tag.ensures.ok; told = c.in_ok-tag.ensures.told [] (spending _ (spent c.one-2.result) (c.in_ok-weighed.weighed.cell ∷ []) l out) }

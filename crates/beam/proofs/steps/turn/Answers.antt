@@ -17,7 +17,7 @@ state_over-requires g c =
     let t = c.args.lift.tag.cell in
     let s = c.args.lift.state.cell in
     let n = c.in-Ok.pose.cell in
-    let l = one_are c.one.result c.args.lift.pose c.one.ensures in
+    let l = (one_are c.one.result c.args.lift.pose c.one.ensures).0 in
     let out = c.in-Ok.ensures.told (t ∷ (s ∷ [])) (beside _ (spent c.one.result) t c.args.lift.pose.cell s l c.requires.carried.out) in
     record { ok = c.in-Ok.ensures.ok; out = reordered _ (n ∷ (t ∷ (s ∷ []))) (t ∷ (n ∷ (s ∷ []))) out (λ d. omega arith) }
 
@@ -25,7 +25,7 @@ pub release-requires : goal.release-requires
 release-requires g c =
     let t = c.args.lift.tag.cell in
     let s = c.args.lift.state.cell in
-    let l = one_are c.one.result c.args.lift.pose c.one.ensures in
+    let l = (one_are c.one.result c.args.lift.pose c.one.ensures).0 in
     let out = c.in-Err.ensures.told (t ∷ (s ∷ [])) (beside _ (spent c.one.result) t c.args.lift.pose.cell s l c.requires.carried.out) in
     record { ok = c.in-Err.ensures.ok; few = few_out (t ∷ (s ∷ [])) out (omega arith); held = omega (arith, out t, hit_self t) }
 
@@ -33,7 +33,7 @@ pub release-requires-in-Err : goal.release-requires-in-Err
 release-requires-in-Err g c =
     let t = c.args.lift.tag.cell in
     let s = c.args.lift.state.cell in
-    let l = one_are c.one.result c.args.lift.pose c.one.ensures in
+    let l = (one_are c.one.result c.args.lift.pose c.one.ensures).0 in
     let out = c.in-Err.ensures.told (t ∷ (s ∷ [])) (beside _ (spent c.one.result) t c.args.lift.pose.cell s l c.requires.carried.out) in
     let last = moved_out (t ∷ (s ∷ [])) (s ∷ []) out c.release.ensures.told (λ d. omega arith) in
     record { ok = c.release.ensures.ok; few = few_out (s ∷ []) last (omega arith); held = omega (arith, last s, hit_self s) }
@@ -42,7 +42,7 @@ pub returns-in-Err : goal.returns-in-Err
 returns-in-Err g c =
     let t = c.args.lift.tag.cell in
     let s = c.args.lift.state.cell in
-    let l = one_are c.one.result c.args.lift.pose c.one.ensures in
+    let l = (one_are c.one.result c.args.lift.pose c.one.ensures).0 in
     let out = c.in-Err.ensures.told (t ∷ (s ∷ [])) (beside _ (spent c.one.result) t c.args.lift.pose.cell s l c.requires.carried.out) in
     let last = moved_out (t ∷ (s ∷ [])) (s ∷ []) out c.release.ensures.told (λ d. omega arith) in
     record { ok = c.release-in-Err.ensures.ok; told = moved_out (s ∷ []) [] last c.release-in-Err.ensures.told (λ d. omega arith) }
