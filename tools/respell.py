@@ -7,8 +7,8 @@ A name is the repository's own where it is defined in specs/ or proofs/: at the 
 constructor, and then it is respelled in every file; or as a parameter or a local name, and then in its own file alone.
 Names that the checker makes (goals, places and values of a walk) and names of the library keep their hyphens, and so
 do file names, functions of src/, strings and comments; in comments, in docs/ and in the README a name is respelled where
-it stands between back quotes, but in docs/PORT.md, which has old names beside new ones. What falls together with another name of the same file is said, and nothing is written; a module of a path and
-a function of src/ are no such names.
+it stands between back quotes, but in docs/PORT.md, which has old names beside new ones. What falls together with another
+name of the same file is said, and nothing is written; a module of a path and a function of src/ are no such names.
 """
 
 import os
