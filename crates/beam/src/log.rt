@@ -1,11 +1,12 @@
-use std::io;
+use crate::beam::Axis;
+use std::{array, fmt};
 use store::cell::Cell;
 use store::tally::tally;
 
 // How many cells the table of this program has.
 pub const CELLS: usize = 12;
 
-const ROWS: usize = 8;
+const STAGES: usize = 7;
 
 // Where a beam is.
 #[derive(Clone, Copy)]
@@ -19,9 +20,20 @@ pub enum Stage {
     OnFloor,
 }
 
-impl Stage {
-    fn text(&self) -> &'static str {
-        match self {
+// Once the axis has moved.
+impl From<Axis> for Stage {
+    fn from(axis: Axis) -> Stage {
+        match axis {
+            Axis::Trolley => Stage::TrolleyMoved,
+            Axis::Slew => Stage::Slewed,
+            Axis::Hoist => Stage::Hoisted,
+        }
+    }
+}
+
+impl fmt::Display for Stage {
+    fn fmt<W: fmt::Write>(&self, f: &mut fmt::Formatter<W>) -> fmt::Result {
+        f.pad(match self {
             Stage::AtGate => "at the yard gate",
             Stage::Tagged => "tag read",
             Stage::Hooked => "on the hook",
@@ -29,7 +41,7 @@ impl Stage {
             Stage::Slewed => "slewed",
             Stage::Hoisted => "hoisted",
             Stage::OnFloor => "on its floor",
-        }
+        })
     }
 }
 
@@ -41,83 +53,60 @@ struct Row {
     cells: [Cell; CELLS],
 }
 
-// What happened to one beam, kept till every hold is spent and it can be printed.
+// The count of a used cell; `o` is a listed cell that still has its links, a dot a wiped one.
+impl fmt::Display for Row {
+    fn fmt<W: fmt::Write>(&self, f: &mut fmt::Formatter<W>) -> fmt::Result {
+        write!(f, "  {:<18}", self.stage)?;
+        match self.cell {
+            Some(cell) => write!(f, "{cell:>4} ")?,
+            None => write!(f, "   - ")?,
+        }
+        for cell in &self.cells {
+            match cell {
+                Cell {
+                    count: 0,
+                    link0: None,
+                    ..
+                } => write!(f, " .")?,
+                Cell { count: 0, .. } => write!(f, " o")?,
+                Cell { count, .. } => write!(f, " {count}")?,
+            }
+        }
+        write!(f, "  tally {}", tally(&self.cells))
+    }
+}
+
+// What happened to one beam, a row for each stage, kept till every hold is spent and it can be printed.
 #[derive(Drop)]
 pub struct Log {
-    rows: [Row; ROWS],
-    used: usize,
+    rows: [Option<Row>; STAGES],
 }
 
 impl Log {
     pub fn new() -> Log {
-        let row = Row {
-            stage: Stage::AtGate,
-            cell: None,
-            cells: [Cell::BLANK; CELLS],
-        };
         Log {
-            rows: [row; ROWS],
-            used: 0,
+            rows: [None; STAGES],
         }
     }
 
-    // A further row; past the last one it is left out.
     pub fn note(&mut self, stage: Stage, cell: Option<u16>, table: &[Cell]) {
-        if self.used < ROWS {
-            let i = self.used;
-            self.rows[i] = Row {
-                stage,
-                cell,
-                cells: copied(table),
-            };
-            self.used = i + 1;
+        self.rows[stage as usize] = Some(Row {
+            stage,
+            cell,
+            cells: first_cells(table),
+        });
+    }
+}
+
+impl fmt::Display for Log {
+    fn fmt<W: fmt::Write>(&self, f: &mut fmt::Formatter<W>) -> fmt::Result {
+        for row in self.rows.iter().flatten() {
+            writeln!(f, "{row}")?;
         }
+        Ok(())
     }
 }
 
-// The first cells of a table.
-fn copied(table: &[Cell]) -> [Cell; CELLS] {
-    let mut cells = [Cell::BLANK; CELLS];
-    for i in 0..CELLS {
-        if i < table.len() {
-            cells[i] = table[i];
-        }
-    }
-    cells
-}
-
-pub fn print(rt: &HostRuntime, log: &Log) -> io::Result<()> {
-    for (i, row) in log.rows.iter().enumerate() {
-        if i < log.used {
-            print_row(rt, row)?;
-        }
-    }
-    Ok(())
-}
-
-fn print_row(rt: &HostRuntime, row: &Row) -> io::Result<()> {
-    let text = row.stage.text();
-    print!(rt; "  {text:<18}")?;
-    match row.cell {
-        Some(c) => print!(rt; "{c:>4} ")?,
-        None => print!(rt; "   - ")?,
-    }
-    for cell in &row.cells {
-        print_cell(rt, cell)?;
-    }
-    let sum = tally(&row.cells);
-    println!(rt; "  tally {sum}")
-}
-
-// The count of a used cell; `o` is a listed cell that still has its links, a dot a wiped one.
-fn print_cell(rt: &HostRuntime, cell: &Cell) -> io::Result<()> {
-    let count = cell.count;
-    if count > 0 {
-        return print!(rt; " {count}");
-    }
-    if cell.link0.is_some() {
-        print!(rt; " o")
-    } else {
-        print!(rt; " .")
-    }
+fn first_cells(table: &[Cell]) -> [Cell; CELLS] {
+    array::from_fn(|i| table.get(i).copied().unwrap_or(Cell::BLANK))
 }

@@ -1,5 +1,6 @@
 #![tactic(auto)]
 
+mod beam;
 mod journey;
 mod log;
 mod shown;
@@ -8,16 +9,16 @@ mod steps;
 mod trials;
 
 ghost use Rattle.std.specs.Prelude.{[]};
-ghost use Rattle.store.specs.Meaning.{Out};
+ghost use Rattle.beam.specs.Carried.{Holding};
 
-use anyhow::anyhow;
-use journey::{Beam, follow};
-use log::{CELLS, Log, print};
+use beam::Beam;
+use journey::follow;
+use log::{CELLS, Log};
 use shown::Shown;
 use store::cell::Cell;
-use store::deferring::Deferring;
-use store::eager::Eager;
 use store::interface::Store;
+use store::lowering::{AtOnce, Later, Lowering};
+use store::stores::Counting;
 
 const BEAMS: [Beam; 2] = [
     Beam {
@@ -50,48 +51,28 @@ fn run(rt: &HostRuntime) -> anyhow::Result<()> {
         "A row has the stage, the cell of the newest state, the count of each cell from 0 on,"
     )?;
     println!(rt; "and the tally. A dot is a wiped cell, o a listed one with its links untouched.")?;
-    deferring(rt, &mut table)?;
-    eager(rt, &mut table)
+    follow_all::<Later>(rt, "deferring", &mut table)?;
+    follow_all::<AtOnce>(rt, "eager", &mut table)
 }
 
-fn deferring(rt: &HostRuntime, table: &mut [Cell]) -> anyhow::Result<()> {
-    let Ok(mut store) = Deferring::set_up(table) else {
-        return Err(anyhow!("the table has no cell or too many"));
+fn follow_all<L: Lowering>(rt: &HostRuntime, name: &str, table: &mut [Cell]) -> anyhow::Result<()> {
+    let mut store = match Counting::<L>::set_up(table) {
+        Ok(store) => store,
+        Err(bad) => return Err(bad.fault.into()),
     };
-    println!(rt; "\nThe deferring store")?;
-    carry(rt, &mut store)
-}
-
-fn eager(rt: &HostRuntime, table: &mut [Cell]) -> anyhow::Result<()> {
-    let Ok(mut store) = Eager::set_up(table) else {
-        return Err(anyhow!("the table has no cell or too many"));
-    };
-    println!(rt; "\nThe eager store")?;
+    println!(rt; "\nThe {name} store")?;
     carry(rt, &mut store)
 }
 
 // One beam after the other.
 fn carry<S: Store + Shown>(rt: &HostRuntime, store: &mut S) -> anyhow::Result<()>
-    requires ok { S.Store.ok store.old }
-    requires none { Out (S.Store.means store.old) [] }
+    requires { Holding S.Store store.old [] }
 {
     'each: for beam in &BEAMS {
-        let Beam {
-            mark,
-            weight,
-            floor,
-            trolley,
-            slew,
-            hoist,
-        } = *beam;
-        println!(rt;
-            "beam {mark}: {weight} kg to floor {floor}, trolley {trolley} m, slew {slew} degrees, hoist {hoist} m"
-        )?;
+        println!(rt; "{beam}")?;
         let mut log = Log::new();
-        if follow(store, beam, &mut log).is_err() {
-            return Err(anyhow!("want of a cell"));
-        }
-        print(rt, &log)?;
+        follow(store, beam, &mut log)?;
+        print!(rt; "{log}")?;
     }
     Ok(())
 }

@@ -1,19 +1,13 @@
 use store::cell::Cell;
-use store::deferring::Deferring;
-use store::eager::Eager;
+use store::lowering::Lowering;
+use store::stores::Counting;
 
 // A store whose table can be looked at.
 pub trait Shown {
     fn table(&self) -> &[Cell];
 }
 
-impl Shown for Deferring<'_> {
-    fn table(&self) -> &[Cell] {
-        self.cells()
-    }
-}
-
-impl Shown for Eager<'_> {
+impl<L: Lowering> Shown for Counting<'_, L> {
     fn table(&self) -> &[Cell] {
         self.cells()
     }

@@ -1,9 +1,9 @@
-ghost use Rattle.std.specs.Prelude.{◌≡◌, ℕ, ◌+◌, ◌<◌, [], ◌∷◌};
-ghost use Rattle.store.specs.Numbers.{times, opt};
-ghost use Rattle.store.specs.Meaning.{Few, Out, Spare, less, arity};
-ghost use Rattle.store.specs.Interface.{Fits, spent, on};
-ghost use Rattle.beam.specs.Carried.{Carried, Exchanged, HoldsLinks, Tagged, Lifted};
+ghost use Rattle.std.specs.Prelude.{◌≡◌, [], ◌∷◌, IfOk};
+ghost use Rattle.store.specs.Interface.{spent};
+ghost use Rattle.beam.specs.Carried.{Holding, Spending, Exchanged, given, Carried, Tagged, Lifted};
 
+use crate::beam::{Beam, Kind, Move};
+use store::content::Content;
 use store::fault::{Refused, RefusedRebuild, StoreFault};
 use store::hold::{Hold, Links};
 use store::interface::Store;
@@ -15,42 +15,26 @@ pub struct Lift {
     pub state: Hold,
 }
 
-// Ends a hold, if there is one.
-fn release_some<S: Store>(store: &mut S, h: Option<Hold>)
-    requires ok { S.Store.ok store.old }
-    requires few { Few (S.Store.means store.old) }
-    requires held { Spare (S.Store.means store.old) (opt (on h)) }
-    ensures ok { S.Store.ok store.new }
-    ensures ended { (d : ℕ) → (S.Store.means store.new).holds d + times d (opt (on h)) ≡ (S.Store.means store.old).holds d }
+// Ends the holds of links.
+fn release_links<S: Store>(store: &mut S, links: Links)
+    requires { Spending S.Store store.old (spent links) }
+    ensures { Exchanged S.Store store.old store.new (spent links) [] }
 {
-    match h {
-        Some(h) => store.release(h),
-        None => {}
+    let Links { first, second } = links;
+    if let Some(hold) = first {
+        store.release(hold);
+    }
+    if let Some(hold) = second {
+        store.release(hold);
     }
 }
 
-fn release_links<S: Store>(store: &mut S, links: Links)
-    requires ok { S.Store.ok store.old }
-    requires few { Few (S.Store.means store.old) }
-    requires held { Spare (S.Store.means store.old) (spent links) }
-    ensures ok { S.Store.ok store.new }
-    ensures ended { (d : ℕ) → (S.Store.means store.new).holds d + times d (spent links) ≡ (S.Store.means store.old).holds d }
-{
-    let Links { first, second } = links;
-    release_some(store, first);
-    release_some(store, second);
-}
-
 // Makes a cell; where it is refused, the holds for its links are ended.
-pub fn make<S: Store>(store: &mut S, kind: u8, value: i32, links: Links) -> Result<Hold, StoreFault>
-    requires ok { S.Store.ok store.old }
-    requires few { Few (S.Store.means store.old) }
-    requires fits { Fits kind links }
-    requires spare { Spare (S.Store.means store.old) (spent links) }
-    ensures ok { S.Store.ok store.new }
-    ensures told { Exchanged (S.Store.means store.old) (S.Store.means store.new) (spent links) result }
+pub fn make<S: Store>(store: &mut S, content: Content) -> Result<Hold, StoreFault>
+    requires { Spending S.Store store.old (spent content.links) }
+    ensures { Exchanged S.Store store.old store.new (spent content.links) (given result) }
 {
-    match store.make(kind, value, links) {
+    match store.make(content) {
         Ok(h) => Ok(h),
         Err(Refused { links, fault }) => {
             release_links(store, links);
@@ -60,23 +44,12 @@ pub fn make<S: Store>(store: &mut S, kind: u8, value: i32, links: Links) -> Resu
 }
 
 // Rebuilds a cell; where it is refused, the old hold and the holds for its links are ended.
-pub fn rebuild<S: Store>(
-    store: &mut S,
-    old: Hold,
-    kind: u8,
-    value: i32,
-    links: Links,
-) -> Result<Hold, StoreFault>
-    requires ok { S.Store.ok store.old }
-    requires few { Few (S.Store.means store.old) }
-    requires held { 0 < (S.Store.means store.old).holds old.cell }
-    requires fits { Fits kind links }
-    requires spare { Spare (less (S.Store.means store.old) old.cell) (spent links) }
-    ensures ok { S.Store.ok store.new }
-    ensures told { Exchanged (S.Store.means store.old) (S.Store.means store.new) (old.cell ∷ spent links) result }
-    ensures written { HoldsLinks (S.Store.means store.new) (spent links) result }
+pub fn rebuild<S: Store>(store: &mut S, old: Hold, content: Content) -> Result<Hold, StoreFault>
+    requires { Spending S.Store store.old (old.cell ∷ spent content.links) }
+    ensures told { Exchanged S.Store store.old store.new (old.cell ∷ spent content.links) (given result) }
+    ensures written { IfOk result (λ h. ((S.Store.means store.new).content h.cell).links ≡ spent content.links) }
 {
-    match store.rebuild(old, kind, value, links) {
+    match store.rebuild(old, content) {
         Ok(h) => Ok(h),
         Err(RefusedRebuild { old, links, fault }) => {
             store.release(old);
@@ -87,31 +60,41 @@ pub fn rebuild<S: Store>(
 }
 
 // The record on a beam's tag: its mark, its weight, and the floor that it goes to.
-pub fn make_tag<S: Store>(
-    store: &mut S,
-    mark: i32,
-    weight: i32,
-    floor: i32,
-) -> Result<Hold, StoreFault>
-    requires ok { S.Store.ok store.old }
-    requires none { Out (S.Store.means store.old) [] }
-    ensures ok { S.Store.ok store.new }
-    ensures told { Tagged (S.Store.means store.new) result }
+pub fn make_tag<S: Store>(store: &mut S, beam: &Beam) -> Result<Hold, StoreFault>
+    requires { Holding S.Store store.old [] }
+    ensures { Tagged S.Store store.new result }
 {
-    let marked = make(store, 1, mark, Links::none())?;
-    let weighed = make(store, 64, weight, Links::one(marked))?;
-    let tag = make(store, 65, floor, Links::one(weighed))?;
-    Ok(tag)
+    let mark = Content {
+        kind: Kind::Mark as u8,
+        value: beam.mark,
+        links: Links::none(),
+    };
+    let marked = make(store, mark)?;
+    let weight = Content {
+        kind: Kind::Weight as u8,
+        value: beam.weight,
+        links: Links::one(marked),
+    };
+    let weighed = make(store, weight)?;
+    let floor = Content {
+        kind: Kind::Floor as u8,
+        value: beam.floor,
+        links: Links::one(weighed),
+    };
+    make(store, floor)
 }
 
 // The hook takes the beam: the tag's record is rebuilt as a state that links to it and to the pose.
 pub fn hook<S: Store>(store: &mut S, tag: Hold) -> Result<Lift, StoreFault>
-    requires ok { S.Store.ok store.old }
-    requires out { Out (S.Store.means store.old) (tag.cell ∷ []) }
-    ensures ok { S.Store.ok store.new }
-    ensures told { Lifted (S.Store.means store.new) result }
+    requires { Holding S.Store store.old (tag.cell ∷ []) }
+    ensures { Lifted S.Store store.new result }
 {
-    let pose = match make(store, 2, 0, Links::none()) {
+    let first = Content {
+        kind: Kind::Pose as u8,
+        value: 0,
+        links: Links::none(),
+    };
+    let pose = match make(store, first) {
         Ok(pose) => pose,
         Err(fault) => {
             store.release(tag);
@@ -123,22 +106,18 @@ pub fn hook<S: Store>(store: &mut S, tag: Hold) -> Result<Lift, StoreFault>
 }
 
 // One axis moves: a new pose before the old one, and the state rebuilt with it. The tag's record is shared.
-pub fn turn<S: Store>(
-    store: &mut S,
-    lift: Lift,
-    axis: u8,
-    value: i32,
-    step: i32,
-) -> Result<Lift, StoreFault>
-    requires ok { S.Store.ok store.old }
-    requires carried { Carried (S.Store.means store.old) lift }
-    requires axis { arity axis ≡ 1 }
-    ensures ok { S.Store.ok store.new }
-    ensures told { Lifted (S.Store.means store.new) result }
+pub fn turn<S: Store>(store: &mut S, lift: Lift, by: Move) -> Result<Lift, StoreFault>
+    requires { Carried S.Store store.old lift }
+    ensures { Lifted S.Store store.new result }
 {
     let Lift { tag, pose, state } = lift;
-    match make(store, axis, value, Links::one(pose)) {
-        Ok(pose) => state_over(store, tag, pose, state, step),
+    let moved = Content {
+        kind: by.kind,
+        value: by.value,
+        links: Links::one(pose),
+    };
+    match make(store, moved) {
+        Ok(pose) => state_over(store, tag, pose, state, by.step),
         Err(fault) => {
             store.release(tag);
             store.release(state);
@@ -155,14 +134,17 @@ fn state_over<S: Store>(
     old: Hold,
     step: i32,
 ) -> Result<Lift, StoreFault>
-    requires ok { S.Store.ok store.old }
-    requires out { Out (S.Store.means store.old) (tag.cell ∷ (pose.cell ∷ (old.cell ∷ []))) }
-    ensures ok { S.Store.ok store.new }
-    ensures told { Lifted (S.Store.means store.new) result }
+    requires { Holding S.Store store.old (tag.cell ∷ (pose.cell ∷ (old.cell ∷ []))) }
+    ensures { Lifted S.Store store.new result }
 {
     let t = store.copy(&tag);
     let p = store.copy(&pose);
-    match rebuild(store, old, 128, step, Links::two(t, p)) {
+    let content = Content {
+        kind: Kind::State as u8,
+        value: step,
+        links: Links::two(t, p),
+    };
+    match rebuild(store, old, content) {
         Ok(state) => Ok(Lift { tag, pose, state }),
         Err(fault) => {
             store.release(tag);
@@ -174,10 +156,8 @@ fn state_over<S: Store>(
 
 // The beam is on its floor: the state is taken apart, and every hold ends.
 pub fn set_down<S: Store>(store: &mut S, lift: Lift)
-    requires ok { S.Store.ok store.old }
-    requires carried { Carried (S.Store.means store.old) lift }
-    ensures ok { S.Store.ok store.new }
-    ensures none { Out (S.Store.means store.new) [] }
+    requires { Carried S.Store store.old lift }
+    ensures { Holding S.Store store.new [] }
 {
     let Lift { tag, pose, state } = lift;
     let links = store.part(state);

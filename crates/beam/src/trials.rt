@@ -1,36 +1,47 @@
-ghost use Rattle.std.specs.Prelude.{[]};
-ghost use Rattle.store.specs.Meaning.{Out};
+ghost use Rattle.std.specs.Prelude.{◌≡◌, [], None};
+ghost use Rattle.beam.specs.Carried.{Holding};
 
 use crate::shown::Shown;
 use crate::steps::{make, rebuild};
 use std::test::Fail;
 use store::cell::Cell;
-use store::deferring::Deferring;
-use store::eager::Eager;
+use store::content::Content;
 use store::hold::Links;
 use store::interface::Store;
+use store::stores::{Deferring, Eager};
 use store::tally::tally;
+
+fn leaf_of(value: i32) -> Content
+    ensures { result.links ≡ record { first = None; second = None } }
+{
+    Content {
+        kind: 0,
+        value,
+        links: Links::none(),
+    }
+}
 
 // A cell of kind 64 over a leaf whose copy is held; the upper one is released, and the leaf rebuilt.
 // Answers the tally between the two, and whether the rebuild was accepted.
 fn upper_released<S: Store + Shown>(store: &mut S) -> Option<(u128, bool)>
-    requires ok { S.Store.ok store.old }
-    requires none { Out (S.Store.means store.old) [] }
+    requires { Holding S.Store store.old [] }
 {
-    let Ok(leaf) = make(store, 0, 5, Links::none()) else {
+    let Ok(leaf) = make(store, leaf_of(5)) else {
         return None;
     };
     let kept = store.copy(&leaf);
-    let upper = match make(store, 64, 6, Links::one(leaf)) {
-        Ok(upper) => upper,
-        Err(_) => {
-            store.release(kept);
-            return None;
-        }
+    let over = Content {
+        kind: 64,
+        value: 6,
+        links: Links::one(leaf),
+    };
+    let Ok(upper) = make(store, over) else {
+        store.release(kept);
+        return None;
     };
     store.release(upper);
     let sum = tally(store.table());
-    match rebuild(store, kept, 0, 7, Links::none()) {
+    match rebuild(store, kept, leaf_of(7)) {
         Ok(leaf) => {
             store.release(leaf);
             Some((sum, true))
@@ -70,17 +81,11 @@ fn fits(n: usize) -> Option<bool> {
         next: None,
     };
     let mut table = [mark; 4097];
-    if n > 4097 {
-        return None;
-    }
-    match Deferring::set_up(&mut table[0..n]) {
+    match Deferring::set_up(table.get_mut(..n)?) {
         Ok(_) => Some(true),
         Err(back) => {
-            if back.cells.len() == n && (n == 0 || back.cells[0] == mark) {
-                Some(false)
-            } else {
-                None
-            }
+            let as_it_went = back.cells.len() == n && back.cells.iter().all(|cell| *cell == mark);
+            as_it_went.then_some(false)
         }
     }
 }

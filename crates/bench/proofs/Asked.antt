@@ -1,12 +1,11 @@
 -- What a bench may ask of its store, and the shape of cells.
-use Rattle.std.proofs.Common.{◌≡◌, ℕ, ◌≤◌, eqb, List, [], ◌∷◌, ◌++◌, length, Some, None, Option, sym, refl, ap, ◌∙◌, subst, ⊎_elim, append-nil, arith}
+use Rattle.std.proofs.Common.{◌≡◌, ℕ, ◌≤◌, eqb, List, [], ◌∷◌, ◌++◌, length, Some, None, Option, sym, refl, ap, ◌∙◌, subst, ⊎_elim, arith}
 use lib.ListN.{length-map}
 use Rattle.std.proofs.lemmas.List.{get_or_append_left, get_or_at, get_or_past, length_push}
 use Rattle.std.proofs.lemmas.Bool.{cases_eq, cases_order, eq-eqb, ne_eqb}
-use Rattle.store.specs.Numbers.{opt}
 use Rattle.store.specs.Meaning.{Node, arity, Meaning, Reached, Spare}
-use Rattle.store.specs.Rooted.{root_at, named}
-use Rattle.bench.specs.Machine.{Machine, blank, spend, taken}
+use Rattle.store.specs.Rooted.{named}
+use Rattle.bench.specs.Machine.{Machine, blank, taken}
 use Rattle.bench.specs.Standing.{Standing}
 use Rattle.bench.specs.Laws.{MayAsk, MadeShaped, CellsShaped}
 use Rattle.bench.proofs.Slots.{named_spent, taken_by}
@@ -59,7 +58,3 @@ own_same {own = own} s {c} {d} r k = ⊎_elim
     (λ e. eq-eqb (own c) (own d) (ap own e) ∙ sym (eq-eqb c d e))
     (λ ne. ne_eqb (own c) (own d) (λ q. ne (own_apart s r k q)) ∙ sym (ne_eqb c d ne))
     (cases_eq c d)
-
--- what two roots name, as the two optional holds of a store's call
-pub taken_pair : (slots : List (Option ℕ)) (a b : ℕ) → taken slots (a ∷ b ∷ []) ≡ opt (root_at slots a) ++ opt (root_at (spend slots a) b)
-taken_pair slots a b = ap (λ l. opt (root_at slots a) ++ l) (append-nil (opt (root_at (spend slots a) b)))

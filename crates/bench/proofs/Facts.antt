@@ -1,6 +1,7 @@
 -- What a bench that stands for some machine may ask of its store.
-use Rattle.std.proofs.Common.{◌≡◌, ℕ, true, List, length, is_some, Some, None, Option, Result, arith}
+use Rattle.std.proofs.Common.{◌≡◌, ℕ, ◌<◌, List, length, Some, Option, Result, sym, arith}
 use Rattle.store.specs.Meaning.{Meaning, Few}
+use Rattle.store.specs.Rooted.{root_at}
 use Rattle.bench.specs.Standing.{Askable}
 use Rattle.bench.specs.declared.call.Call.{Call}
 use Rattle.bench.specs.declared.call.Answer.{Answer}
@@ -15,10 +16,9 @@ asks {slots} {m} s = may_ask s.machine slots m s.stands
 pub few_of : {slots : List (Option ℕ)} {m : Meaning} → Stood slots m → Few m
 few_of s = (asks s).few (omega (arith, s.sized))
 
--- a root in use is not empty
-pub not_none : (o : Option ℕ) → is_some o ≡ true → None ≡ o → ⊥
-not_none None u e = let z : ◌≡◌ {A = ℕ} 0 1 = cc in omega arith
-not_none (Some c) u e = let z : ◌≡◌ {A = ℕ} 0 1 = cc in omega arith
+-- a hold is out on the cell that a root names
+pub held_of : {slots : List (Option ℕ)} {m : Meaning} (r : ℕ) {c : ℕ} → Stood slots m → Some c ≡ root_at slots r → 0 < m.holds c
+held_of r {c} s e = (asks s).held r c (sym e)
 
 -- where the answer is every machine's, the bench stands for the next machine
 pub stood_after : {slots new : List (Option ℕ)} {m k : Meaning} {call : Call} {r : Result Answer BenchFault} → Stood slots m → length new ≡ 16 → Answers slots m call r new k → Stood new k

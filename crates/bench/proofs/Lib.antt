@@ -14,5 +14,6 @@ pub mod Facts
 pub mod Taking
 pub mod Handing
 pub mod Replies
+pub mod Sending
 pub mod Serving
 pub mod Ordered

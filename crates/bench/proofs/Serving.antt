@@ -1,5 +1,5 @@
 -- Turn after turn: what holds so far goes on to hold.
-use Rattle.std.proofs.Common.{◌≡◌, ℕ, ◌+◌, ◌<◌, ◌≤◌, Bool, true, false, cond, eqb, ◌↔◌, List, [], ◌∷◌, ◌++◌, length, get_or, take, set, Some, None, Ok, Err, Option, Result, sym, refl, ap, ◌∙◌, subst, append-nil}
+use Rattle.std.proofs.Common.{◌≡◌, ℕ, ◌+◌, ◌<◌, ◌≤◌, Bool, true, false, cond, eqb, ◌↔◌, List, [], ◌∷◌, ◌++◌, length, get_or, take, set, Some, None, Ok, Err, Option, Result, sym, refl, ap, ◌∙◌, subst, append-nil, arith}
 use Rattle.std.proofs.lemmas.Bool.{false≢true, eqb-true, eq-eqb}
 use Rattle.std.proofs.lemmas.List.{take_more, take_more_set, take_all}
 use Rattle.store.specs.declared.interface.Store.{Ghosts}
@@ -13,7 +13,7 @@ use Rattle.bench.specs.declared.fault.BenchFault.{BenchFault}
 use Rattle.bench.specs.Machine.{Machine, Shaped, parted, made, rebuilt, live, shared}
 use Rattle.bench.specs.Standing.{Stands}
 use Rattle.bench.specs.Step.{Told, tested, step, unless_full, link_roots, node_of_root}
-use Rattle.bench.specs.Bench.{Follows, Effect}
+use Rattle.bench.specs.Bench.{Stood, Follows, Answers, Effect}
 use Rattle.bench.specs.Tests.{flags, fault_of}
 use Rattle.bench.specs.Laws.{NodesGrow}
 use Rattle.bench.specs.Lists.{Reply, new_node, added, replies, after, wanting, Wants, Turn, Turns, ended, turned, TurnShows, Throughout, Served, Shown, Placed}
@@ -48,14 +48,14 @@ module _ {S : Type 0} {G : Ghosts S} {n : ℕ} where
   as_lists : {t : Machine} {cs ds : List Call} {rs qs : List Reply} {b e : Bench S} → cs ≡ ds → rs ≡ qs → Served G n t cs rs b e → Served G n t ds qs b e
   as_lists {t} {b = b} {e = e} p q s = subst (λ (x : List Call × List Reply). Served G n t x.0 x.1 b e) (λ i. (p i, q i)) s
 
-  pub served_next : {t : Machine} {b d e : Bench S} (cs : List Call) (none : Call) (rs : List Reply) (i : ℕ) (r : Reply) → i < length cs → i < length rs → Served G n t (take i cs) (take i rs) b d →
+  served_next : {t : Machine} {b d e : Bench S} (cs : List Call) (none : Call) (rs : List Reply) (i : ℕ) (r : Reply) → i < length cs → i < length rs → Served G n t (take i cs) (take i rs) b d →
       Turn G n (after n t (take i cs)) (get_or cs i none) r d e → Served G n t (take (i + 1) cs) (take (i + 1) (set rs i r)) b e
   served_next cs none rs i r h k s x = as_lists (sym (take_more cs i none h)) (sym (take_more_set rs i r k)) (served_more s x)
 
-  pub served_all : {t : Machine} {b e : Bench S} (cs : List Call) (rs : List Reply) (i : ℕ) → length cs ≤ i → length rs ≤ i → Served G n t (take i cs) (take i rs) b e → Served G n t cs rs b e
+  served_all : {t : Machine} {b e : Bench S} (cs : List Call) (rs : List Reply) (i : ℕ) → length cs ≤ i → length rs ≤ i → Served G n t (take i cs) (take i rs) b e → Served G n t cs rs b e
   served_all cs rs i h k s = as_lists (take_all i cs h) (take_all i rs k) s
 
-pub served_none : {S : Type 0} (G : Ghosts S) (t : Machine) (b : Bench S) → Stands t b.roots.slots (G.means b.store) → Shaped t → Served G (G.means b.store).size t [] [] b b
+served_none : {S : Type 0} (G : Ghosts S) (t : Machine) (b : Bench S) → Stands t b.roots.slots (G.means b.store) → Shaped t → Served G (G.means b.store).size t [] [] b b
 unfolding after replies
 served_none G t b s h = record { turns = ended; told = refl; stands = s; shaped = h; sized = refl }
 
@@ -85,10 +85,35 @@ wants n t (Look x) r e = tt
 wants n t (Same x s) r e = tt
 
 -- what a call ensures is a turn, where the store has n cells
-pub turn_of : {S : Type 0} (G : Ghosts S) (n : ℕ) (t : Machine) (call : Call) (r : Reply) (b e : Bench S) → (G.means b.store).size ≡ n → G.ok e.store →
+turn_of : {S : Type 0} (G : Ghosts S) (n : ℕ) (t : Machine) (call : Call) (r : Reply) (b e : Bench S) → (G.means b.store).size ≡ n → G.ok e.store →
     Follows (G.means b.store).size t call r e.roots.slots (G.means e.store) →
     Effect b.roots.slots call r e.roots.slots (G.kept b.store e.store) (λ q. G.did b.store q e.store) → Turn G n t call r b e
 turn_of G n t call r b e z k f x = record { ok = k; follows = subst (λ y. Follows y t call r e.roots.slots (G.means e.store)) z f; effect = x }
+
+-- so far the calls were served, and the bench is in order
+pub record Running {S : Type 0} (G : Ghosts S) (calls : List Call) (rs : List Reply) (b e : Bench S) : Type 0 where
+  pub ok : G.ok e.store
+  pub stood : Stood e.roots.slots (G.means e.store)
+  pub served : (t : Machine) → Stands t b.roots.slots (G.means b.store) → Shaped t → Served G (G.means b.store).size t calls rs b e
+
+module _ {S : Type 0} (G : Ghosts S) (b : Bench S) where
+  pub running_none : G.ok b.store → Stood b.roots.slots (G.means b.store) → Running G [] [] b b
+  running_none k s = record { ok = k; stood = s; served = λ t u h. served_none G t b u h }
+
+  pub running_next : (calls : List Call) (rs : List Reply) (i : ℕ) (none : Call) (r : Reply) (d e : Bench S) → i < length calls → length rs ≡ length calls → Running G (take i calls) (take i rs) b d → G.ok e.store → Stood e.roots.slots (G.means e.store) →
+      Answers d.roots.slots (G.means d.store) (get_or calls i none) r e.roots.slots (G.means e.store) → Effect d.roots.slots (get_or calls i none) r e.roots.slots (G.kept d.store e.store) (λ q. G.did d.store q e.store) →
+      Running G (take (i + 1) calls) (take (i + 1) (set rs i r)) b e
+  running_next calls rs i none r d e h l x k s told effect = record {
+    ok = k;
+    stood = s;
+    served = λ t u p.
+        (let y = x.served t u p in
+        let m = after (G.means b.store).size t (take i calls) in
+        served_next calls none rs i r h (omega arith) y (turn_of G (G.means b.store).size m (get_or calls i none) r d e y.sized k (told m y.stands y.shaped) effect));
+  }
+
+  pub running_all : (calls : List Call) (rs : List Reply) (i : ℕ) (e : Bench S) → length calls ≤ i → length rs ≡ length calls → Running G (take i calls) (take i rs) b e → Running G calls rs b e
+  running_all calls rs i e h l x = record { ok = x.ok; stood = x.stood; served = λ t u p. served_all calls rs i h (omega arith) (x.served t u p) }
 
 -- what follows from each turn holds throughout
 pub throughout : {S : Type 0} {G : Ghosts S} {n : ℕ} {P : Machine → Call → Reply → Bench S → Bench S → Type 0} {t : Machine} {calls : List Call} {rs : List Reply} {b e : Bench S} → ((t : Machine) (call : Call) (r : Reply) (b e : Bench S) → Turn G n t call r b e → P t call r b e) →

@@ -1,23 +1,17 @@
 -- The holds for two links are taken out of their roots, and set back.
-use Rattle.std.proofs.Common.{◌≡◌, ℕ, ◌<◌, Bool, true, false, cond, not, eqb, leb, List, [], ◌∷◌, ◌++◌, length, set, is_some, Some, None, Option, sym, refl, ap, ◌∙◌, subst, append_assoc, append-nil, set-set}
+use Rattle.std.proofs.Common.{◌≡◌, ℕ, ◌<◌, Bool, true, false, cond, not, eqb, leb, List, [], ◌∷◌, ◌++◌, length, set, is_some, Some, None, Option, sym, refl, ap, ◌∙◌, subst, set-set}
+use Rattle.std.proofs.lemmas.List.{set_comm, get_or-set_other}
 use lib.Seq.{set-get_or}
 use Rattle.std.proofs.lemmas.Bool.{both_ways, eq-eqb, ne_eqb, and_parts}
 use Rattle.store.specs.declared.hold.Links.{Links}
 use Rattle.store.specs.Interface.{on}
-use Rattle.store.specs.Numbers.{opt}
 use Rattle.store.specs.Rooted.{root_at}
 use Rattle.bench.specs.Machine.{spend, spent, taken}
 use Rattle.bench.specs.Step.{linked, link_roots}
 use Rattle.store.specs.Meaning.{arity}
-use Rattle.store.specs.Sound.{Fitting}
-use Rattle.bench.specs.Tests.{fits_kind}
-use Rattle.bench.specs.Bench.{put, Back}
+use Rattle.bench.specs.Handing.{Back, put, Spendable, LinksPassed, Taken}
 use Rattle.bench.proofs.Slots.{spend_none, spent_keeps}
-use Rattle.bench.proofs.Passes.{Spendable, spent_append, spendable_taken, fits_arity}
-
-pub taken_append : (slots : List (Option ℕ)) (xs ys : List ℕ) → taken slots (xs ++ ys) ≡ taken slots xs ++ taken (spent slots xs) ys
-taken_append slots [] ys = refl
-taken_append slots (x ∷ xs) ys = ap (λ l. opt (root_at slots x) ++ l) (taken_append (spend slots x) xs ys) ∙ sym (append_assoc (opt (root_at slots x)) (taken (spend slots x) xs) (taken (spent (spend slots x) xs) ys))
+use Rattle.bench.proofs.Passes.{spent_append, spendable_taken, fits_arity}
 
 -- a root that was emptied gets back what it named
 pub restored : (slots : List (Option ℕ)) (r : ℕ) → put (spend slots r) r (root_at slots r) ≡ slots
@@ -31,21 +25,14 @@ restored slots r = go (root_at slots r) refl
 abbrev pub from_field : List (Option ℕ) → ℕ → Option ℕ
 from_field slots a = cond (eqb a 255) None (root_at slots a)
 
-pub field_taken : (slots : List (Option ℕ)) (a : ℕ) → opt (from_field slots a) ≡ taken slots (linked a)
-field_taken slots a = elim (eqb a 255) as (λ f. opt (cond f None (root_at slots a)) ≡ taken slots (cond f [] (a ∷ []))) [ true ↦ refl | false ↦ sym (append-nil (opt (root_at slots a))) ]
-
-pub field_restored : (slots : List (Option ℕ)) (a : ℕ) → put (spent slots (linked a)) a (from_field slots a) ≡ slots
+field_restored : (slots : List (Option ℕ)) (a : ℕ) → put (spent slots (linked a)) a (from_field slots a) ≡ slots
 field_restored slots a = elim (eqb a 255) as (λ f. put (spent slots (cond f [] (a ∷ []))) a (cond f None (root_at slots a)) ≡ slots) [ true ↦ refl | false ↦ restored slots a ]
 
 module _ (slots one two : List (Option ℕ)) (a b : ℕ) (x y : Option ℕ) (e : one ≡ spent slots (linked a)) (f : two ≡ spent one (linked b)) (g : x ≡ from_field slots a) (h : y ≡ from_field one b) where
-  pub both_spent : two ≡ spent slots (link_roots a b)
+  both_spent : two ≡ spent slots (link_roots a b)
   both_spent = f ∙ ap (λ (l : List (Option ℕ)). spent l (linked b)) e ∙ sym (spent_append slots (linked a) (linked b))
 
-  pub both_taken : opt x ++ opt y ≡ taken slots (link_roots a b)
-  both_taken = (λ i. opt (g i) ++ opt (h i)) ∙ (λ i. field_taken slots a i ++ field_taken one b i)
-      ∙ ap (λ (l : List (Option ℕ)). taken slots (linked a) ++ taken l (linked b)) e ∙ sym (taken_append slots (linked a) (linked b))
-
-  pub both_restored : put (put two b y) a x ≡ slots
+  both_restored : put (put two b y) a x ≡ slots
   both_restored = (λ i. put (put (f i) b (h i)) a (g i)) ∙ ap (λ (l : List (Option ℕ)). put l a (from_field slots a)) (field_restored one b)
       ∙ ap (λ (l : List (Option ℕ)). put l a (from_field slots a)) e ∙ field_restored slots a
 
@@ -67,24 +54,29 @@ spendable_first : (slots : List (Option ℕ)) (xs ys : List ℕ) → Spendable s
 spendable_first slots [] ys s = tt
 spendable_first slots (x ∷ xs) ys s = (s.0, spendable_first (spend slots x) xs ys s.1)
 
--- what is known once the holds for the links of a kind are taken out of their roots
-pub record Taken (base two : List (Option ℕ)) (kind a b : ℕ) (x y : Option ℕ) : Type 0 where
-  pub slots : two ≡ spent base (link_roots a b)
-  pub links : opt x ++ opt y ≡ taken base (link_roots a b)
-  pub fits : Fitting kind x y
-  pub length_is : length (taken base (link_roots a b)) ≡ arity kind
-  pub back_0 : Back two a x
-  pub back_1 : Back two b y
-  pub apart : is_some x ≡ true → a ≡ b → ⊥
-  pub whole : put (put two b y) a x ≡ base
+-- two roots are filled in either order
+filled_apart : (slots : List (Option ℕ)) (a b : ℕ) (x y : Option ℕ) → (is_some x ≡ true → a ≡ b → ⊥) → put (put slots a x) b y ≡ put (put slots b y) a x
+filled_apart slots a b None y n = refl
+filled_apart slots a b (Some i) None n = refl
+filled_apart slots a b (Some i) (Some j) n = set_comm slots a b (Some i) (Some j) (n refl)
 
-module _ (base one two : List (Option ℕ)) (kind a b : ℕ) (x y : Option ℕ) (e : one ≡ spent base (linked a)) (f : two ≡ spent one (linked b)) (g : x ≡ from_field base a) (h : y ≡ from_field one b)
-    (sp : Spendable base (link_roots a b)) (ft : fits_kind kind a b ≡ true) (l0 : (a ≡ 255 → ⊥) → a < 16) (l1 : (b ≡ 255 → ⊥) → b < 16) where
+back_after : (slots : List (Option ℕ)) (a b : ℕ) (x y : Option ℕ) → (is_some x ≡ true → a ≡ b → ⊥) → Back slots b y → Back (put slots a x) b y
+back_after slots a b x None n k = tt
+back_after slots a b None (Some j) n k = k
+back_after slots a b (Some i) (Some j) n k = (k.0, get_or-set_other slots a b (Some i) None (λ q. n refl (sym q)) ∙ k.1)
+
+module _ (base one two : List (Option ℕ)) (kind a b : ℕ) (p : LinksPassed base kind a b) (l : Links) (e : one ≡ spent base (linked a)) (f : two ≡ spent one (linked b)) (g : on l.first ≡ from_field base a) (h : on l.second ≡ from_field one b) where
+  abbrev pub x : Option ℕ
+  x = on l.first
+
+  abbrev pub y : Option ℕ
+  y = on l.second
+
   sp0 : Spendable base (linked a)
-  sp0 = spendable_first base (linked a) (linked b) sp
+  sp0 = spendable_first base (linked a) (linked b) p.spends
 
   sp1 : Spendable one (linked b)
-  sp1 = subst (λ (l : List (Option ℕ)). Spendable l (linked b)) (sym e) (spendable_rest base (linked a) (linked b) sp)
+  sp1 = subst (λ (l : List (Option ℕ)). Spendable l (linked b)) (sym e) (spendable_rest base (linked a) (linked b) p.spends)
 
   some_0 : is_some x ≡ not (eqb a 255)
   some_0 = ap is_some g ∙ field_some base a sp0
@@ -93,10 +85,7 @@ module _ (base one two : List (Option ℕ)) (kind a b : ℕ) (x y : Option ℕ) 
   some_1 = ap is_some h ∙ field_some one b sp1
 
   parts : (cond (leb 1 (arity kind)) (not (eqb a 255)) (eqb a 255) ≡ true) × (cond (leb 2 (arity kind)) (not (eqb b 255)) (eqb b 255) ≡ true)
-  parts = and_parts _ _ ft
-
-  pub fitted : Fitting kind x y
-  fitted = record { first = some_0 ∙ bit_fits (eqb a 255) (leb 1 (arity kind)) parts.0; second = some_1 ∙ bit_fits (eqb b 255) (leb 2 (arity kind)) parts.1 }
+  parts = and_parts _ _ p.fits
 
   -- a link that is there is no 255
   real : (c : ℕ) (o : Option ℕ) → is_some o ≡ not (eqb c 255) → is_some o ≡ true → c ≡ 255 → ⊥
@@ -126,20 +115,16 @@ module _ (base one two : List (Option ℕ)) (kind a b : ℕ) (x y : Option ℕ) 
       let empty : root_at one b ≡ None = ap (λ c. root_at one c) (sym z) ∙ ap (λ (l : List (Option ℕ)). root_at l a) one_is ∙ spend_none base a in
       both_ways (is_some (root_at one b)) (ap is_some empty) used
 
-  pub links_taken : Taken base two kind a b x y
+  pub links_taken : Taken base two a b l
   links_taken = record {
-    slots = both_spent base one two a b x y e f g h;
-    links = both_taken base one two a b x y e f g h;
-    fits = fitted;
-    length_is = spendable_taken base (link_roots a b) sp ∙ fits_arity kind a b ft;
-    back_0 = back two a x (λ u. l0 (real a x some_0 u)) emptied_0;
-    back_1 = back two b y (λ u. l1 (real b y some_1 u)) emptied_1;
-    apart = parted_roots;
-    whole = both_restored base one two a b x y e f g h;
+    left = both_spent base one two a b x y e f g h;
+    settable = record {
+      first = back two a x (λ u. p.link_0 (real a x some_0 u)) emptied_0;
+      second = back_after two a b x y parted_roots (back two b y (λ u. p.link_1 (real b y some_1 u)) emptied_1);
+    };
+    whole = filled_apart two a b x y parted_roots ∙ both_restored base one two a b x y e f g h;
   }
 
--- what a refusal hands back can be set back
-pub record Backed (slots : List (Option ℕ)) (a b : ℕ) (l : Links) : Type 0 where
-  pub first : Back slots a (on l.first)
-  pub second : Back slots b (on l.second)
-  pub apart : is_some (on l.first) ≡ true → a ≡ b → ⊥
+-- a kind has as many links as the roots give
+pub linked_length : {slots : List (Option ℕ)} {kind a b : ℕ} → LinksPassed slots kind a b → length (taken slots (link_roots a b)) ≡ arity kind
+linked_length {slots} {kind} {a} {b} p = spendable_taken slots (link_roots a b) p.spends ∙ fits_arity kind a b p.fits

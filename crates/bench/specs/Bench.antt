@@ -1,6 +1,9 @@
 -- What a bench keeps, and how its calls answer.
-use Rattle.std.specs.Prelude.{◌≡◌, ℕ, ◌<◌, List, length, Some, None, Ok, Err, Option, Result, slice_set}
+use Rattle.std.specs.Prelude.{◌≡◌, ℕ, List, length, Some, None, Ok, Err, Option, Result}
 use Rattle.store.specs.Rooted.{root_at}
+use Rattle.store.specs.declared.interface.Store.{Ghosts}
+use Rattle.bench.specs.declared.bench.Bench.{Bench}
+use Rattle.bench.specs.Tests.{flags, fault_of}
 use Rattle.bench.specs.declared.call.Answer.TheVariants.{Done, Value, OtherKind, Cell, Sameness}
 use Rattle.bench.specs.declared.fault.Wanting.{Wanting}
 use Rattle.bench.specs.declared.fault.BenchFault.TheVariants.{Store}
@@ -60,12 +63,14 @@ abbrev pub done_or : Result (Unit {0}) Wanting → Result Answer BenchFault
 done_or (Ok _) = Ok Done
 done_or (Err w) = Err (Store w)
 
--- an optional hold can be set in a root: the root is there and empty
-abbrev pub Back : List (Option ℕ) → ℕ → Option ℕ → Type 0
-Back slots r None = Unit {0}
-Back slots r (Some c) = (r < 16) × (root_at slots r ≡ None)
+-- a bench in order, before a call whose tests are passed
+pub record Ready {S : Type 0} (G : Ghosts S) (b : Bench S) (call : Call) : Type 0 where
+  pub ok : G.ok b.store
+  pub stood : Stood b.roots.slots (G.means b.store)
+  pub passed : fault_of call (flags b.roots.slots) ≡ None
 
--- the slots with an optional number set in a root
-abbrev pub put : List (Option ℕ) → ℕ → Option ℕ → List (Option ℕ)
-put slots r None = slots
-put slots r (Some c) = slice_set slots r (Some c)
+-- the call took the bench from b to e and was answered so
+pub record Sent {S : Type 0} (G : Ghosts S) (b : Bench S) (call : Call) (r : Result Answer BenchFault) (e : Bench S) : Type 0 where
+  pub ok : G.ok e.store
+  pub told : Answers b.roots.slots (G.means b.store) call r e.roots.slots (G.means e.store)
+  pub effect : Effect b.roots.slots call r e.roots.slots (G.kept b.store e.store) (λ q. G.did b.store q e.store)

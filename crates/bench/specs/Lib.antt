@@ -5,6 +5,7 @@ pub mod Laws
 pub mod Faults
 pub mod Tests
 pub mod Step
+pub mod Handing
 pub mod Bench
 pub mod Lists
 pub mod Examples

@@ -1,7 +1,9 @@
 ghost use Rattle.std.specs.Prelude.{◌≡◌};
-ghost use Rattle.bench.specs.Faults.{bench_report};
+ghost use Rattle.bench.specs.Faults.{bench_report, field_told, touch_told};
 ghost use Rattle.bench.specs.declared.fault.BenchFault.TheVariants.{Store};
 
+use std::error::Error;
+use std::fmt;
 use store::fault::{Report, StoreFault};
 
 // A refusal of the store, with the root that was to be filled.
@@ -14,6 +16,19 @@ pub struct Wanting {
 // There are not as many places for answers as calls.
 #[derive(Clone, Copy)]
 pub struct NoPlace;
+
+// A root field that is not 0–15, nor 255 where that is allowed.
+#[derive(Clone, Copy, PartialEq, Eq, Debug)]
+pub struct NoSuchRoot(pub u8);
+
+// Why a root is refused what is to be done to it.
+#[derive(Clone, Copy, PartialEq, Eq, Debug)]
+pub enum TouchFault {
+    // it is empty when its turn to be used or spent comes
+    Empty(u8),
+    // it is in use when its turn to be filled comes
+    InUse(u8),
+}
 
 // Why a bench refuses a call.
 #[derive(Clone, Copy, PartialEq, Eq, Debug)]
@@ -30,15 +45,15 @@ pub enum BenchFault {
     Store(Wanting),
 }
 
-impl BenchFault {
-    pub fn report(&self) -> Report
-        ensures { result ≡ bench_report self.now }
-    {
-        match self {
+impl From<BenchFault> for Report {
+    ghost from_gives = { λ e r. r ≡ bench_report e };
+
+    fn from(e: BenchFault) -> Report {
+        match e {
             BenchFault::NoSuchRoot(root) => Report {
                 number: 2,
                 layer: 2,
-                root: *root,
+                root,
                 place: 65535,
             },
             BenchFault::LinksUnfit => Report {
@@ -50,19 +65,46 @@ impl BenchFault {
             BenchFault::RootEmpty(root) => Report {
                 number: 20,
                 layer: 2,
-                root: *root,
+                root,
                 place: 65535,
             },
             BenchFault::RootInUse(root) => Report {
                 number: 21,
                 layer: 2,
-                root: *root,
+                root,
                 place: 65535,
             },
             BenchFault::Store(w) => Report {
                 root: w.root,
-                ..w.fault.report()
+                ..Report::from(w.fault)
             },
+        }
+    }
+}
+
+impl fmt::Display for BenchFault {
+    fn fmt<W: fmt::Write>(&self, f: &mut fmt::Formatter<W>) -> fmt::Result {
+        Report::from(*self).fmt(f)
+    }
+}
+
+impl Error for BenchFault {}
+
+impl From<NoSuchRoot> for BenchFault {
+    ghost from_gives = { λ e r. r ≡ field_told e };
+
+    fn from(e: NoSuchRoot) -> BenchFault {
+        BenchFault::NoSuchRoot(e.0)
+    }
+}
+
+impl From<TouchFault> for BenchFault {
+    ghost from_gives = { λ e r. r ≡ touch_told e };
+
+    fn from(e: TouchFault) -> BenchFault {
+        match e {
+            TouchFault::Empty(r) => BenchFault::RootEmpty(r),
+            TouchFault::InUse(r) => BenchFault::RootInUse(r),
         }
     }
 }

@@ -1,138 +1,101 @@
-ghost use Rattle.std.specs.Prelude.{◌≡◌, Ok, slice_set};
-ghost use Rattle.bench.specs.Tests.{field_fault, kind_fault, touch_fault, touch_refused, touched, fault_of, verdict, in_use, unless_none};
-ghost use Rattle.bench.specs.declared.call.Touch.TheVariants.{Spend, Fill};
+ghost use Rattle.std.specs.Prelude.{◌≡◌, map, Ok, Option, Result, option_and_then, slice_set};
+ghost use Rattle.bench.specs.Tests.{unnamed, first, fits_kind, link_fault, link, touch_denied, touched, first_denied, after_touches, touch_fault, fault_of, verdict, in_use};
 
+use crate::call::Touch::{Fill, Spend, Use};
 use crate::call::{Call, Field, Touch};
-use crate::fault::BenchFault;
+use crate::fault::{BenchFault, NoSuchRoot, TouchFault};
 use store::cell::links_of_kind;
 
 // The tests of a call, in their order: the root fields, the links against the kind, then the roots in use.
 pub fn test(call: &Call, used: &[bool; 16]) -> Result<(), BenchFault>
     ensures { result ≡ verdict (fault_of call.now used.now) }
 {
-    match *call {
-        Call::Make {
-            d,
-            kind,
-            value: _,
-            a,
-            b,
-        } => {
-            test_fields(&[Field::Root(d), Field::Link(a), Field::Link(b)])?;
-            test_links(kind, a, b)?;
-            test_touches(used, &[spend_link(a), spend_link(b), Some(Touch::Fill(d))])
-        }
-        Call::Copy { s, d } => {
-            test_fields(&[Field::Root(s), Field::Root(d)])?;
-            test_touches(used, &[Some(Touch::Use(s)), Some(Touch::Fill(d))])
-        }
-        Call::Release { r } => {
-            test_fields(&[Field::Root(r)])?;
-            test_touches(used, &[Some(Touch::Spend(r))])
-        }
-        Call::Match { r, kind, a, b } => {
-            test_fields(&[Field::Root(r), Field::Link(a), Field::Link(b)])?;
-            test_links(kind, a, b)?;
-            test_touches(used, &[Some(Touch::Spend(r)), fill_link(a), fill_link(b)])
-        }
-        Call::Rebuild {
-            r,
-            kind,
-            value: _,
-            a,
-            b,
-        } => {
-            test_fields(&[Field::Root(r), Field::Link(a), Field::Link(b)])?;
-            test_links(kind, a, b)?;
-            test_touches(
-                used,
-                &[
-                    Some(Touch::Spend(r)),
-                    spend_link(a),
-                    spend_link(b),
-                    Some(Touch::Fill(r)),
-                ],
-            )
-        }
-        Call::Look { r } => {
-            test_fields(&[Field::Root(r)])?;
-            test_touches(used, &[Some(Touch::Use(r))])
-        }
-        Call::Same { r, s } => {
-            test_fields(&[Field::Root(r), Field::Root(s)])?;
-            test_touches(used, &[Some(Touch::Use(r)), Some(Touch::Use(s))])
-        }
-    }
+    test_each(&call.fields(), test_field)?;
+    test_links(call)?;
+    test_roots(used, &call.touches())
 }
 
-// The first field that names no root.
-fn test_fields(fields: &[Field]) -> Result<(), BenchFault>
-    ensures { result ≡ verdict (field_fault fields.now) }
+// The first of the items that are there that fails the test.
+pub fn test_each<T: Copy, E, F: Fn(T) -> Result<(), E>>(
+    items: &[Option<T>],
+    test: F,
+) -> Result<(), E>
+    requires { F.IsAlwaysCallable test }
+    ensures { (f : T → Option E) → ((x : T) (r : Result (Unit {0}) E) → F.post test x r → r ≡ verdict (f x)) → result ≡ verdict (first (map (option_and_then f) items.now)) }
 {
-    'each: for field in fields {
-        match *field {
-            Field::Root(r) => {
-                if r >= 16 {
-                    return Err(BenchFault::NoSuchRoot(r));
-                }
-            }
-            Field::Link(r) => {
-                if r >= 16 && r != 255 {
-                    return Err(BenchFault::NoSuchRoot(r));
-                }
-            }
+    'each: for item in items {
+        if let Some(item) = *item {
+            test(item)?;
         }
     }
     Ok(())
+}
+
+// A field that names no root.
+pub fn test_field(field: Field) -> Result<(), NoSuchRoot>
+    ensures { result ≡ verdict (unnamed field) }
+{
+    match field {
+        Field::Root(r) if r >= 16 => Err(NoSuchRoot(r)),
+        Field::Link(r) if r >= 16 && r != 255 => Err(NoSuchRoot(r)),
+        _ => Ok(()),
+    }
+}
+
+fn test_links(call: &Call) -> Result<(), BenchFault>
+    ensures { result ≡ verdict (link_fault call.now) }
+{
+    if call.links_fit() {
+        Ok(())
+    } else {
+        Err(BenchFault::LinksUnfit)
+    }
 }
 
 // A link's root is 255 exactly where the kind lacks the link.
-fn test_links(kind: u8, a: u8, b: u8) -> Result<(), BenchFault>
-    ensures { result ≡ verdict (kind_fault kind a b) }
+pub fn fits_kind(kind: u8, a: u8, b: u8) -> bool
+    ensures { result ≡ fits_kind kind a b }
 {
     let n = links_of_kind(kind);
-    if (n >= 1) != (a != 255) || (n >= 2) != (b != 255) {
-        return Err(BenchFault::LinksUnfit);
-    }
-    Ok(())
+    (n >= 1) == link(a).is_some() && (n >= 2) == link(b).is_some()
 }
 
 // The first root that is empty where it is used, or in use where it is filled.
-fn test_touches(used: &[bool; 16], touches: &[Option<Touch>]) -> Result<(), BenchFault>
+fn test_roots(used: &[bool; 16], touches: &[Option<Touch>]) -> Result<(), BenchFault>
     ensures { result ≡ verdict (touch_fault touches.now used.now) }
 {
-    let mut flags = *used;
+    let mut used = *used;
+    test_touches(&mut used, touches)?;
+    Ok(())
+}
+
+// What the touches leave in use, one after another, unless one is refused.
+pub fn test_touches(used: &mut [bool; 16], touches: &[Option<Touch>]) -> Result<(), TouchFault>
+    ensures told { result ≡ verdict (first_denied touches.now used.old) }
+    ensures after { result ≡ Ok tt → used.new ≡ after_touches touches.now used.old }
+{
     'each: for touch in touches {
-        if let Some(t) = *touch {
-            test_touch(&mut flags, t)?;
+        if let Some(touch) = *touch {
+            test_touch(used, touch)?;
         }
     }
     Ok(())
 }
 
 // What the touch leaves in use, unless it is refused.
-fn test_touch(used: &mut [bool; 16], touch: Touch) -> Result<(), BenchFault>
-    ensures told { result ≡ verdict (touch_refused touch used.old) }
+pub fn test_touch(used: &mut [bool; 16], touch: Touch) -> Result<(), TouchFault>
+    ensures told { result ≡ verdict (touch_denied touch used.old) }
     ensures after { result ≡ Ok tt → used.new ≡ touched touch used.old }
 {
     match touch {
-        Touch::Use(r) => {
-            if !in_use(used, r) {
-                return Err(BenchFault::RootEmpty(r));
-            }
-            Ok(())
-        }
-        Touch::Spend(r) => {
-            if !in_use(used, r) {
-                return Err(BenchFault::RootEmpty(r));
-            }
+        Use(r) | Spend(r) if !in_use(used, r) => Err(TouchFault::Empty(r)),
+        Fill(r) if in_use(used, r) => Err(TouchFault::InUse(r)),
+        Use(_) => Ok(()),
+        Spend(r) => {
             put(used, r, false);
             Ok(())
         }
-        Touch::Fill(r) => {
-            if in_use(used, r) {
-                return Err(BenchFault::RootInUse(r));
-            }
+        Fill(r) => {
             put(used, r, true);
             Ok(())
         }
@@ -144,29 +107,19 @@ pub fn put(used: &mut [bool; 16], r: u8, flag: bool)
     ensures { used.new ≡ slice_set used.old r flag }
 {
     if r < 16 {
-        used[r as usize] = flag;
+        used[usize::from(r)] = flag;
     }
 }
 
 pub fn in_use(used: &[bool; 16], r: u8) -> bool
     ensures { result ≡ in_use used.now r }
 {
-    let i = r as usize;
-    if i < 16 { used[i] } else { false }
+    used.get(usize::from(r)).copied().unwrap_or(false)
 }
 
-pub fn spend_link(a: u8) -> Option<Touch>
-    ensures { result ≡ unless_none a (Spend a) }
+// The root that a link's field names; none where it is 255.
+pub fn link(a: u8) -> Option<u8>
+    ensures { result ≡ link a }
 {
-    if a == 255 {
-        None
-    } else {
-        Some(Touch::Spend(a))
-    }
-}
-
-pub fn fill_link(a: u8) -> Option<Touch>
-    ensures { result ≡ unless_none a (Fill a) }
-{
-    if a == 255 { None } else { Some(Touch::Fill(a)) }
+    (a != 255).then_some(a)
 }

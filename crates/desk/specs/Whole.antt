@@ -1,14 +1,12 @@
 -- One list of calls on three benches: over both of our stores, and over any other.
 use Rattle.std.specs.Prelude.{◌≡◌, ℕ, List, length, replicate, None}
-use Rattle.store.specs.declared.deferring.Deferring.{Deferring}
-use Rattle.store.specs.declared.eager.Eager.{Eager}
 use Rattle.store.specs.declared.interface.Store.{Ghosts}
 use Rattle.bench.specs.declared.call.Call.{Call}
 use Rattle.bench.specs.declared.bench.Bench.{Bench}
 use Rattle.bench.specs.Machine.{Machine, Shaped, start}
 use Rattle.bench.specs.Standing.{Stands}
 use Rattle.bench.specs.Lists.{Reply, Shown}
-use Rattle.desk.specs.Ours.{deferring, eager, DeferringLaw, EagerLaw, Lawful}
+use Rattle.desk.specs.Ours.{Deferring, Eager, deferring, eager, DeferringLaw, EagerLaw, Lawful}
 
 -- what is told of a list by its number of cells, machine, calls, answers, and the bench before and after
 abbrev pub Tells : Type 0 → Type 1

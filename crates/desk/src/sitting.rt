@@ -2,8 +2,7 @@ ghost use Rattle.bench.specs.Bench.{Stood};
 ghost use Rattle.bench.specs.Lists.{Placed};
 ghost use Rattle.desk.specs.Whole.{Whole, Unplaced};
 
-use crate::deferring::DeferringBench;
-use crate::eager::EagerBench;
+use crate::benches::{DeferringBench, EagerBench};
 use bench::bench::Bench;
 use bench::call::{Answer, Call};
 use bench::fault::{BenchFault, NoPlace};

@@ -1,11 +1,10 @@
-use crate::deferring::DeferringBench;
-use crate::eager::EagerBench;
+use crate::benches::{DeferringBench, EagerBench};
 use bench::call::{Answer, Call};
 use bench::fault::BenchFault;
 use std::test::Fail;
 use store::cell::Cell;
-use store::deferring::Deferring;
-use store::eager::Eager;
+use store::fault::Report;
+use store::stores::{Deferring, Eager};
 use store::tally::tally;
 
 fn leaf(d: u8, value: i32) -> Call {
@@ -124,9 +123,9 @@ fn a_released_cell_still_counts_where_reclaiming_is_deferred(rt: HostRuntime) ->
     };
     let mut deferring = DeferringBench::over(deferring);
     let mut eager = EagerBench::over(eager);
-    'each: for i in 0..4 {
-        assert_eq!(rt; deferring.send(&UPPER_RELEASED[i]), Ok(Answer::Done));
-        assert_eq!(rt; eager.send(&UPPER_RELEASED[i]), Ok(Answer::Done));
+    for call in &UPPER_RELEASED {
+        assert_eq!(rt; deferring.send(call), Ok(Answer::Done));
+        assert_eq!(rt; eager.send(call), Ok(Answer::Done));
     }
     assert_eq!(rt; tally(deferring.cells()), 2);
     assert_eq!(rt; tally(eager.cells()), 1);
@@ -146,20 +145,12 @@ fn fits(n: usize) -> Option<bool> {
         next: None,
     };
     let mut table = [mark; 4097];
-    if n > 4097 {
-        return None;
-    }
-    match Deferring::set_up(&mut table[0..n]) {
+    match Deferring::set_up(table.get_mut(..n)?) {
         Ok(_) => Some(true),
         Err(back) => {
-            if back.cells.len() == n
-                && (n == 0 || back.cells[0] == mark)
-                && back.fault.report().number == 1
-            {
-                Some(false)
-            } else {
-                None
-            }
+            let number = Report::from(back.fault).number;
+            let as_it_went = back.cells.len() == n && back.cells.iter().all(|cell| *cell == mark);
+            (as_it_went && number == 1).then_some(false)
         }
     }
 }

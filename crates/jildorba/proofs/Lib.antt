@@ -1,2 +1,1 @@
-mod Paired
 mod Words

@@ -1,8 +1,8 @@
 -- Bytes written in hexadecimal digits, two a byte.
 use Rattle.std.specs.Prelude.{◌≡◌, ℕ, ◌+◌, ◌*◌, ◌<◌, List, [], ◌∷◌, ◌++◌, Ok, Err, Result}
 use Rattle.std.specs.Char.{digit_value}
-use Rattle.jildorba.specs.declared.hex.Misread.{Misread}
-use Rattle.jildorba.specs.declared.hex.Misread.TheVariants.{NoMemory, Unreadable}
+use Rattle.jildorba.specs.declared.unreadable.Misread.{Misread}
+use Rattle.jildorba.specs.declared.unreadable.Misread.TheVariants.{NoMemory, Unreadable}
 
 -- a byte, the high digit first
 abbrev pub byte : ℕ → ℕ → ℕ
@@ -26,5 +26,5 @@ bytes (h ∷ (l ∷ cs)) = byte h l ∷ bytes cs
 -- the bytes of a word are appended; or it is refused, if it is not such a word
 abbrev pub Appended : List ℕ → List ℕ → List ℕ → Result (Unit {0}) Misread → Type 0
 Appended before word after (Ok t) = Hex word × (after ≡ before ++ bytes word)
-Appended before word after (Err NoMemory) = Unit {0}
+Appended before word after (Err (NoMemory e)) = Unit {0}
 Appended before word after (Err (Unreadable e)) = Hex word → ⊥

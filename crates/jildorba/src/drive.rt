@@ -1,19 +1,18 @@
-ghost use Rattle.std.specs.Prelude.{◌≡◌, ◌+◌, ◌<◌, ◌≤◌, length, IfOk};
+ghost use Rattle.std.specs.Prelude.{◌≡◌, ◌+◌, ◌<◌, ◌≤◌, ◌^◌, length, IfOk};
 ghost use Rattle.jildorba.specs.Parts.{Onward, OpensAfter};
 
-use crate::hex::{Misread, bytes_of};
+use crate::hex::bytes_of;
 use crate::line::{Ask, Line, read_line};
-use crate::memory::NoMemory;
 use crate::part::Part;
-use crate::show::{
-    show_answer, show_cells, show_help, show_report, show_roots, show_tally, show_trouble,
-    show_verdict,
-};
+use crate::show::{Cells, HELP, Roots};
+use crate::unreadable::{Misread, Unreadable};
 use bench::call::{Answer, Call};
 use bench::fault::BenchFault;
 use rule::check::check;
 use std::alloc::{AllocError, Global};
+use std::array;
 use store::cell::Cell;
+use store::fault::Report;
 use store::tally::tally;
 
 // A bench that a script is sent to.
@@ -27,95 +26,101 @@ pub trait Desk {
     fn root(&self, r: u8) -> Option<u16>;
 }
 
-// What a line leaves to do.
+// Whom the lines of a script ask.
+pub trait Asked {
+    // Prints the answer.
+    fn ask(&mut self, ask: &Ask, out: &mut String) -> Result<(), Misread<'static>>;
+}
+
+impl<D: Desk> Asked for D {
+    fn ask(&mut self, ask: &Ask, out: &mut String) -> Result<(), Misread<'static>> {
+        match ask {
+            Ask::Call(call) => match self.send(call) {
+                Ok(answer) => writeln!(out, "{answer}")?,
+                Err(fault) => writeln!(out, "{fault}")?,
+            },
+            Ask::Tally => writeln!(out, "tally {}", tally(self.cells()))?,
+            Ask::Roots => {
+                let roots = array::from_fn(|r| self.root(r as u8));
+                writeln!(out, "{}", Roots(&roots))?;
+            }
+            Ask::Cells => write!(out, "{}", Cells(self.cells()))?,
+        }
+        Ok(())
+    }
+}
+
+// No bench stands yet.
 #[derive(Clone, Copy)]
-enum Turn {
-    Nothing,
-    Open(Part),
-    Ask(Ask),
+pub struct NoDesk;
+
+impl Asked for NoDesk {
+    fn ask(&mut self, _ask: &Ask, _out: &mut String) -> Result<(), Misread<'static>> {
+        Err(Unreadable::NoStore.into())
+    }
 }
 
-const NO_STORE: &str = "no store is set up yet: begin with store deferring N or store eager N";
+// Answers the lines of a script, and has what is to be printed.
+#[derive(Drop)]
+pub struct Clerk {
+    pub heap: Global,
+    pub out: String,
+}
 
-// Sends the lines from `start` on to a bench, until one sets up the next bench.
-pub fn serve<D: Desk>(
-    heap: Global,
-    desk: &mut D,
-    script: &[&str],
-    start: usize,
-    out: &mut String,
-) -> Result<Option<Part>, NoMemory>
-    ensures { IfOk result (Onward start (length script.now)) }
-{
-    for i in start..script.len() {
-        match take_turn(heap, script, i, out)? {
-            Turn::Nothing => {}
-            Turn::Open(part) => return Ok(Some(part)),
-            Turn::Ask(ask) => ask_desk(desk, &ask, out)?,
+impl Clerk {
+    pub fn new(heap: Global) -> Clerk {
+        Clerk {
+            heap,
+            out: String::new(heap),
         }
     }
-    Ok(None)
-}
 
-// The same while no bench stands.
-pub fn serve_none(
-    heap: Global,
-    script: &[&str],
-    start: usize,
-    out: &mut String,
-) -> Result<Option<Part>, NoMemory>
-    ensures { IfOk result (Onward start (length script.now)) }
-{
-    for i in start..script.len() {
-        match take_turn(heap, script, i, out)? {
-            Turn::Nothing => {}
-            Turn::Open(part) => return Ok(Some(part)),
-            Turn::Ask(_) => show_trouble(out, i + 1, NO_STORE)?,
+    // Answers the lines from `start` on, until one sets up the next bench.
+    pub fn serve<A: Asked>(
+        &mut self,
+        script: &[&str],
+        start: usize,
+        asked: &mut A,
+    ) -> Result<Option<Part>, AllocError>
+        ensures { IfOk result (Onward start (length script.now)) }
+    {
+        for (i, line) in script.iter().enumerate().skip(start) {
+            match self.answer(line, i, asked) {
+                Ok(None) => {}
+                Ok(part) => return Ok(part),
+                Err(Misread::NoMemory(e)) => return Err(e),
+                Err(Misread::Unreadable(why)) => {
+                    writeln!(self.out, "line {}: {why}", i + 1)?;
+                }
+            }
         }
+        Ok(None)
     }
-    Ok(None)
-}
 
-// Answers line i where that needs no bench.
-fn take_turn(heap: Global, script: &[&str], i: usize, out: &mut String) -> Result<Turn, NoMemory>
-    requires { i < length script.now }
-    ensures { IfOk result (OpensAfter i) }
-{
-    let number = i + 1;
-    match read_line(script[i]) {
-        Ok(Line::Blank) => {}
-        Ok(Line::Help) => show_help(out)?,
-        Ok(Line::Setup { make, cells }) => match Part::new(make, cells, number) {
-            Ok(part) => return Ok(Turn::Open(part)),
-            Err(fault) => show_report(out, &fault.report())?,
-        },
-        Ok(Line::Check(words)) => match bytes_of(heap, words) {
-            Ok(bytes) => show_verdict(out, &check(bytes.as_slice()))?,
-            Err(Misread::NoMemory) => return Err(NoMemory),
-            Err(Misread::Unreadable(why)) => show_trouble(out, number, why)?,
-        },
-        Ok(Line::Ask(ask)) => return Ok(Turn::Ask(ask)),
-        Err(why) => show_trouble(out, number, why)?,
-    }
-    Ok(Turn::Nothing)
-}
-
-fn ask_desk<D: Desk>(desk: &mut D, ask: &Ask, out: &mut String) -> Result<(), AllocError> {
-    match ask {
-        Ask::Call(call) => {
-            let answer = desk.send(call);
-            show_answer(out, &answer)
+    // Answers line i, unless it opens a part.
+    fn answer<'a, A: Asked>(
+        &mut self,
+        line: &'a str,
+        i: usize,
+        asked: &mut A,
+    ) -> Result<Option<Part>, Misread<'a>>
+        requires { i + 1 < 2 ^ 64 }
+        ensures { IfOk result (OpensAfter i) }
+    {
+        let number = i + 1;
+        match read_line(line)? {
+            Line::Blank => {}
+            Line::Help => self.out.push_str(HELP)?,
+            Line::Setup { make, cells } => match Part::new(make, cells, number) {
+                Ok(part) => return Ok(Some(part)),
+                Err(fault) => writeln!(self.out, "{}", Report::from(fault))?,
+            },
+            Line::Check(words) => match check(bytes_of(self.heap, words)?.as_slice()) {
+                Ok(n) => writeln!(self.out, "records {n}")?,
+                Err(fault) => writeln!(self.out, "{fault}")?,
+            },
+            Line::Ask(ask) => asked.ask(&ask, &mut self.out)?,
         }
-        Ask::Tally => show_tally(out, tally(desk.cells())),
-        Ask::Roots => show_roots(out, &all_roots(desk)),
-        Ask::Cells => show_cells(out, desk.cells()),
+        Ok(None)
     }
-}
-
-fn all_roots<D: Desk>(desk: &D) -> [Option<u16>; 16] {
-    let mut roots = [None; 16];
-    for r in 0..16u8 {
-        roots[usize::from(r)] = desk.root(r);
-    }
-    roots
 }

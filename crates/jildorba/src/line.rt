@@ -1,7 +1,7 @@
-use crate::numbers::{Misfit, byte, root, size, value};
+use crate::numbers::{Misfit, number, root};
 use crate::unreadable::{Field, Unreadable};
 use bench::call::Call;
-use std::str::SplitWhitespace;
+use std::str::{FromStr, SplitWhitespace};
 
 // Which store a bench stands on.
 #[derive(Clone, Copy)]
@@ -57,10 +57,7 @@ pub fn read_line<'a>(text: &'a str) -> Result<Line<'a>, Unreadable<'a>> {
 
 impl<'a> Fields<'a> {
     fn of(text: &'a str) -> Fields<'a> {
-        let said = match text.split_once('#') {
-            Some((before, _)) => before,
-            None => text,
-        };
+        let (said, _) = text.split_once('#').unwrap_or((text, ""));
         Fields {
             words: said.split_whitespace(),
         }
@@ -70,9 +67,9 @@ impl<'a> Fields<'a> {
         let make = match self.word(Field::Make)? {
             "deferring" => Make::Deferring,
             "eager" => Make::Eager,
-            other => return Err(Unreadable::OutOfRange(Field::Make, other)),
+            other => return Err(Unreadable::Unfit(Misfit::OutOfRange, Field::Make, other)),
         };
-        let cells = self.size(Field::Cells)?;
+        let cells = self.number(Field::Cells)?;
         Ok(Line::Setup { make, cells })
     }
 
@@ -80,8 +77,8 @@ impl<'a> Fields<'a> {
         match command {
             "make" => Ok(Call::Make {
                 d: self.root(Field::Filled)?,
-                kind: self.byte(Field::Kind)?,
-                value: self.value(Field::Value)?,
+                kind: self.number(Field::Kind)?,
+                value: self.number(Field::Value)?,
                 a: self.root(Field::Link0)?,
                 b: self.root(Field::Link1)?,
             }),
@@ -94,14 +91,14 @@ impl<'a> Fields<'a> {
             }),
             "match" => Ok(Call::Match {
                 r: self.root(Field::Root)?,
-                kind: self.byte(Field::Kind)?,
+                kind: self.number(Field::Kind)?,
                 a: self.root(Field::Link0)?,
                 b: self.root(Field::Link1)?,
             }),
             "rebuild" => Ok(Call::Rebuild {
                 r: self.root(Field::Root)?,
-                kind: self.byte(Field::Kind)?,
-                value: self.value(Field::Value)?,
+                kind: self.number(Field::Kind)?,
+                value: self.number(Field::Value)?,
                 a: self.root(Field::Link0)?,
                 b: self.root(Field::Link1)?,
             }),
@@ -117,48 +114,25 @@ impl<'a> Fields<'a> {
     }
 
     fn word(&mut self, field: Field) -> Result<&'a str, Unreadable<'a>> {
-        match self.words.next() {
-            Some(word) => Ok(word),
-            None => Err(Unreadable::Missing(field)),
-        }
+        self.words.next().ok_or(Unreadable::Missing(field))
     }
 
     fn root(&mut self, field: Field) -> Result<u8, Unreadable<'a>> {
         let word = self.word(field)?;
-        fitting(root(word), field, word)
+        root(word).map_err(|why| Unreadable::Unfit(why, field, word))
     }
 
-    fn byte(&mut self, field: Field) -> Result<u8, Unreadable<'a>> {
+    fn number<T: FromStr>(&mut self, field: Field) -> Result<T, Unreadable<'a>>
+    where
+        T::Err: Drop,
+    {
         let word = self.word(field)?;
-        fitting(byte(word), field, word)
-    }
-
-    fn size(&mut self, field: Field) -> Result<u16, Unreadable<'a>> {
-        let word = self.word(field)?;
-        fitting(size(word), field, word)
-    }
-
-    fn value(&mut self, field: Field) -> Result<i32, Unreadable<'a>> {
-        let word = self.word(field)?;
-        fitting(value(word), field, word)
+        number(word).map_err(|why| Unreadable::Unfit(why, field, word))
     }
 
     // No word is left over.
     fn end(&mut self) -> Result<(), Unreadable<'a>> {
-        match self.words.next() {
-            Some(word) => Err(Unreadable::Extra(word)),
-            None => Ok(()),
-        }
-    }
-}
-
-fn fitting<'a, T>(
-    read: Result<T, Misfit>,
-    field: Field,
-    word: &'a str,
-) -> Result<T, Unreadable<'a>> {
-    match read {
-        Ok(x) => Ok(x),
-        Err(why) => Err(Unreadable::unfit(why, field, word)),
+        let left = self.words.next();
+        left.map_or(Ok(()), |word| Err(Unreadable::Extra(word)))
     }
 }

@@ -5,7 +5,6 @@ mod desks;
 mod drive;
 mod hex;
 mod line;
-mod memory;
 mod numbers;
 mod part;
 mod setup;
@@ -15,8 +14,9 @@ mod tests;
 mod unreadable;
 
 use anyhow::anyhow;
-use drive::serve_none;
+use drive::{Clerk, NoDesk};
 use setup::serve_part;
+use std::alloc::AllocError;
 use std::io::Read;
 use std::{env, fs};
 
@@ -50,14 +50,18 @@ fn read_input(rt: &HostRuntime) -> anyhow::Result<Vec<u8>> {
 
 // Prints the answers part by part.
 fn answer_all(rt: &HostRuntime, script: &[&str]) -> anyhow::Result<()> {
-    let heap = rt.alloc();
-    let mut out = String::new(heap);
-    let mut next = serve_none(heap, script, 0, &mut out)?;
+    let mut clerk = Clerk::new(rt.alloc());
+    let mut next = clerk.serve(script, 0, &mut NoDesk).map_err(no_memory)?;
     while let Some(part) = next {
-        rt.print(out.as_str())?;
-        out.clear();
-        next = serve_part(heap, part, script, &mut out)?;
+        rt.print(clerk.out.as_str())?;
+        clerk.out.clear();
+        next = serve_part(&mut clerk, part, script).map_err(no_memory)?;
     }
-    rt.print(out.as_str())?;
+    rt.print(clerk.out.as_str())?;
     Ok(())
+}
+
+// Text that is kept in memory is refused for no other reason.
+fn no_memory(_e: AllocError) -> anyhow::Error {
+    anyhow!("no memory is left")
 }

@@ -1,7 +1,8 @@
-ghost use Rattle.std.specs.Prelude.{◌≡◌, [], ◌∷◌, IfErr, Ok, MatchBool, ◌≢◌};
-ghost use Rattle.std.specs.Int.{w32};
-ghost use Rattle.std.specs.Str.Parse.{AllDigits, without_leading_sign, ParsesUnsigned, ParsesSigned};
-ghost use Rattle.jildorba.specs.Words.{Tells};
+ghost use Rattle.std.specs.Prelude.{◌≡◌, ◌↔◌, true, [], ◌∷◌, IfErr, Ok, ◌≢◌};
+ghost use Rattle.std.specs.Str.Parse.{AllDigits, without_leading_sign, ParsesUnsigned};
+ghost use Rattle.jildorba.specs.Words.{Parses, Tells};
+
+use std::str::FromStr;
 
 // Why a word is no number for its field.
 #[derive(Clone, Copy)]
@@ -12,37 +13,14 @@ pub enum Misfit {
     OutOfRange,
 }
 
-// The byte that the digits of a word write; a plus may stand first.
-pub fn byte(word: &str) -> Result<u8, Misfit>
-    ensures reads { ParsesUnsigned 8 10 word.now result }
+// The number that the digits of a word write; a plus may stand first, and a minus where the type has a sign.
+pub fn number<T: FromStr>(word: &str) -> Result<T, Misfit>
+where
+    T::Err: Drop,
+    ensures reads { Parses T.from_str_gives word.now result }
     ensures why { IfErr result (Tells word.now) }
 {
-    match word.parse::<u8>() {
-        Ok(n) => Ok(n),
-        Err(_) => Err(why_not(word)),
-    }
-}
-
-// The same at 16 bits.
-pub fn size(word: &str) -> Result<u16, Misfit>
-    ensures reads { ParsesUnsigned 16 10 word.now result }
-    ensures why { IfErr result (Tells word.now) }
-{
-    match word.parse::<u16>() {
-        Ok(n) => Ok(n),
-        Err(_) => Err(why_not(word)),
-    }
-}
-
-// The same with a sign, at 32 bits.
-pub fn value(word: &str) -> Result<i32, Misfit>
-    ensures reads { ParsesSigned w32 10 word.now result }
-    ensures why { IfErr result (Tells word.now) }
-{
-    match word.parse::<i32>() {
-        Ok(n) => Ok(n),
-        Err(_) => Err(why_not(word)),
-    }
+    word.parse::<T>().map_err(|_| why_not(word))
 }
 
 // The byte of a root field, where a minus alone stands for 255.
@@ -54,7 +32,7 @@ pub fn root(word: &str) -> Result<u8, Misfit>
     if word == "-" {
         return Ok(255);
     }
-    byte(word)
+    number(word)
 }
 
 fn why_not(word: &str) -> Misfit
@@ -71,20 +49,14 @@ fn why_not(word: &str) -> Misfit
 fn after_sign(bytes: &[u8]) -> &[u8]
     ensures { result.now ≡ without_leading_sign bytes.now }
 {
-    if !bytes.is_empty() && (bytes[0] == b'-' || bytes[0] == b'+') {
-        &bytes[1..]
-    } else {
-        bytes
+    match bytes {
+        [b'-' | b'+', rest @ ..] => rest,
+        _ => bytes,
     }
 }
 
 fn all_digits(bytes: &[u8]) -> bool
-    ensures { MatchBool result (AllDigits 10 bytes.now) (AllDigits 10 bytes.now → ⊥) }
+    ensures { (result ≡ true) ↔ AllDigits 10 bytes.now }
 {
-    'each: for i in 0..bytes.len() {
-        if !bytes[i].is_ascii_digit() {
-            return false;
-        }
-    }
-    true
+    bytes.iter().all(u8::is_ascii_digit)
 }

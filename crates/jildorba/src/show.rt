@@ -1,12 +1,7 @@
-use bench::call::Answer;
-use bench::fault::BenchFault;
-use rule::fault::RuleFault;
-use std::alloc::AllocError;
 use std::fmt;
 use store::cell::Cell;
-use store::fault::Report;
 
-const HELP: &str = "store deferring N   sets up a fresh bench of N cells, on the deferring store
+pub const HELP: &str = "store deferring N   sets up a fresh bench of N cells, on the deferring store
 store eager N       the same on the eager store
 make D K V A B      fills root D with a new cell of kind K and value V; spends roots A and B for its links
 copy S D            fills root D with the cell of root S
@@ -23,94 +18,51 @@ help                this list
 Roots are 0 to 15; for a link that the kind lacks write -, which stands for 255. A # starts a comment.
 ";
 
-pub fn show_help(out: &mut String) -> Result<(), AllocError> {
-    out.push_str(HELP)
-}
-
-pub fn show_done(out: &mut String) -> Result<(), AllocError> {
-    out.push_str("ok\n")
-}
-
-pub fn show_answer(
-    out: &mut String,
-    answer: &Result<Answer, BenchFault>,
-) -> Result<(), AllocError> {
-    match answer {
-        Ok(Answer::Done) => show_done(out),
-        Ok(Answer::Value(value)) => writeln!(out, "value {value}"),
-        Ok(Answer::OtherKind) => out.push_str("other kind\n"),
-        Ok(Answer::Cell { kind, value }) => writeln!(out, "kind {kind} value {value}"),
-        Ok(Answer::Sameness(true)) => out.push_str("yes\n"),
-        Ok(Answer::Sameness(false)) => out.push_str("no\n"),
-        Err(fault) => show_report(out, &fault.report()),
-    }
-}
-
-pub fn show_report(out: &mut String, report: &Report) -> Result<(), AllocError> {
-    let Report {
-        number,
-        layer,
-        root,
-        place,
-    } = *report;
-    writeln!(
-        out,
-        "fault {number} layer {layer} root {root} place {place}"
-    )
-}
-
-// How many records a rule has, or why it is refused.
-pub fn show_verdict(out: &mut String, verdict: &Result<u16, RuleFault>) -> Result<(), AllocError> {
-    match verdict {
-        Ok(n) => writeln!(out, "records {n}"),
-        Err(fault) => show_report(out, &fault.report()),
-    }
-}
-
-pub fn show_tally(out: &mut String, sum: u128) -> Result<(), AllocError> {
-    writeln!(out, "tally {sum}")
-}
-
 // The roots in use, each with the cell that it names.
-pub fn show_roots(out: &mut String, roots: &[Option<u16>; 16]) -> Result<(), AllocError> {
-    out.push_str("roots")?;
-    let mut none = true;
-    for (r, root) in roots.iter().enumerate() {
-        if let Some(cell) = root {
-            write!(out, " {r}:{cell}")?;
-            none = false;
+#[derive(Clone, Copy)]
+pub struct Roots<'a>(pub &'a [Option<u16>; 16]);
+
+impl fmt::Display for Roots<'_> {
+    fn fmt<W: fmt::Write>(&self, f: &mut fmt::Formatter<W>) -> fmt::Result {
+        let Roots(roots) = *self;
+        f.write_str("roots")?;
+        if roots.iter().all(Option::is_none) {
+            return f.write_str(" none");
         }
+        for (r, root) in roots.iter().enumerate() {
+            if let Some(cell) = root {
+                write!(f, " {r}:{cell}")?;
+            }
+        }
+        Ok(())
     }
-    if none {
-        out.push_str(" none")?;
-    }
-    out.push_str("\n")
 }
 
 // A line for each cell.
-pub fn show_cells(out: &mut String, cells: &[Cell]) -> Result<(), AllocError> {
-    for (i, cell) in cells.iter().enumerate() {
-        show_cell(out, i, cell)?;
-    }
-    Ok(())
-}
+#[derive(Clone, Copy)]
+pub struct Cells<'a>(pub &'a [Cell]);
 
-fn show_cell(out: &mut String, i: usize, cell: &Cell) -> Result<(), AllocError> {
-    let Cell {
-        kind,
-        value,
-        link0,
-        link1,
-        count,
-        next,
-    } = *cell;
-    let link0 = Place(link0);
-    let link1 = Place(link1);
-    let next = Place(next);
-    writeln!(
-        out,
-        "cell {i} kind {kind} value {value} links {link0} {link1} count {count} next {next}"
-    )
+impl fmt::Display for Cells<'_> {
+    fn fmt<W: fmt::Write>(&self, f: &mut fmt::Formatter<W>) -> fmt::Result {
+        for (i, cell) in self.0.iter().enumerate() {
+            let Cell {
+                kind,
+                value,
+                link0,
+                link1,
+                count,
+                next,
+            } = *cell;
+            let link0 = Place(link0);
+            let link1 = Place(link1);
+            let next = Place(next);
+            writeln!(
+                f,
+                "cell {i} kind {kind} value {value} links {link0} {link1} count {count} next {next}"
+            )?;
+        }
+        Ok(())
+    }
 }
 
 // The number of a cell, or a minus for none.
@@ -124,13 +76,4 @@ impl fmt::Display for Place {
             None => f.write_str("-"),
         }
     }
-}
-
-// What is said of a line that is not answered. Lines are counted from 1.
-pub fn show_trouble<T: fmt::Display + Drop>(
-    out: &mut String,
-    line: usize,
-    why: T,
-) -> Result<(), AllocError> {
-    writeln!(out, "line {line}: {why}")
 }

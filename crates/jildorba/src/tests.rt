@@ -1,8 +1,10 @@
 ghost use Rattle.std.specs.Prelude.{◌≤◌};
+ghost use Rattle.std.specs.Int.{w32};
+ghost use Rattle.std.specs.Str.Parse.{ParsesUnsigned, ParsesSigned};
 
-use crate::drive::{Desk, serve, serve_none};
+use crate::drive::{Clerk, Desk, NoDesk};
 use crate::line::{Ask, Line, Make, read_line};
-use crate::memory::NoMemory;
+use crate::numbers::{Misfit, number};
 use bench::call::{Answer, Call};
 use bench::fault::{BenchFault, Wanting};
 use std::alloc::{AllocError, Global};
@@ -145,6 +147,35 @@ fn unreadable_lines_are_told_why(rt: HostRuntime) -> Result<(), Fail> {
     Ok(())
 }
 
+// What `number` promises at each type that a field has, in the library's words.
+fn byte(word: &str) -> Result<u8, Misfit>
+    ensures { ParsesUnsigned 8 10 word.now result }
+{
+    number(word)
+}
+
+fn size(word: &str) -> Result<u16, Misfit>
+    ensures { ParsesUnsigned 16 10 word.now result }
+{
+    number(word)
+}
+
+fn value(word: &str) -> Result<i32, Misfit>
+    ensures { ParsesSigned w32 10 word.now result }
+{
+    number(word)
+}
+
+#[test]
+fn numbers_are_read_at_each_type(rt: HostRuntime) {
+    assert!(rt; matches!(byte("+255"), Ok(255)));
+    assert!(rt; matches!(byte("-0"), Err(Misfit::OutOfRange)));
+    assert!(rt; matches!(size("65536"), Err(Misfit::OutOfRange)));
+    assert!(rt; matches!(size("0x10"), Err(Misfit::NoNumber)));
+    assert!(rt; matches!(value("-2147483648"), Ok(-2147483648)));
+    assert!(rt; matches!(value("-"), Err(Misfit::NoNumber)));
+}
+
 // Answers the calls in turn, whatever they are; it stands on a lent table as a bench does.
 #[derive(Drop)]
 struct Dummy<'t> {
@@ -242,31 +273,31 @@ fn a_part_is_served_up_to_the_next(rt: HostRuntime) -> Result<(), Fail> {
         next: Some(0),
         ..Cell::BLANK
     };
-    let mut out = String::new(rt.alloc());
-    let Some(first) = serve_none(rt.alloc(), &SCRIPT, 0, &mut out)? else {
+    let mut clerk = Clerk::new(rt.alloc());
+    let Some(first) = clerk.serve(&SCRIPT, 0, &mut NoDesk)? else {
         return Err(Fail::new("no part"));
     };
     assert_eq!(rt; first.start, 4);
-    assert_eq!(rt; out.as_str(), BEFORE);
-    out.clear();
+    assert_eq!(rt; clerk.out.as_str(), BEFORE);
+    clerk.out.clear();
     let mut desk = Dummy {
         cells: &mut table,
         sent: 0,
     };
-    let Some(second) = serve(rt.alloc(), &mut desk, &SCRIPT, first.start, &mut out)? else {
+    let Some(second) = clerk.serve(&SCRIPT, first.start, &mut desk)? else {
         return Err(Fail::new("no second part"));
     };
     assert_eq!(rt; second.start, 18);
     assert_eq!(rt; second.cells, 4096);
-    assert_eq!(rt; out.as_str(), SERVED);
+    assert_eq!(rt; clerk.out.as_str(), SERVED);
     Ok(())
 }
 
 // What is printed for a script of one line that needs no bench.
-fn told(heap: Global, line: &str) -> Result<String, NoMemory> {
-    let mut out = String::new(heap);
-    serve_none(heap, &[line], 0, &mut out)?;
-    Ok(out)
+fn told(heap: Global, line: &str) -> Result<String, AllocError> {
+    let mut clerk = Clerk::new(heap);
+    clerk.serve(&[line], 0, &mut NoDesk)?;
+    Ok(clerk.out)
 }
 
 #[test]

@@ -1,4 +1,9 @@
+ghost use Rattle.std.specs.Prelude.{◌≡◌};
+ghost use Rattle.std.specs.declared.alloc.AllocError.{AllocError};
+ghost use Rattle.jildorba.specs.declared.unreadable.Misread.TheVariants.{NoMemory, Unreadable};
+
 use crate::numbers::Misfit;
+use std::alloc::{AllocError, AllocFailed};
 use std::fmt;
 
 // A field of a line, with the letter that the list of commands has for it.
@@ -24,9 +29,9 @@ pub enum Field {
     Value,
 }
 
-impl Field {
-    fn name(self) -> &'static str {
-        match self {
+impl fmt::Display for Field {
+    fn fmt<W: fmt::Write>(&self, f: &mut fmt::Formatter<W>) -> fmt::Result {
+        f.write_str(match self {
             Field::Make => "the make of the store",
             Field::Cells => "N",
             Field::Filled => "D",
@@ -36,9 +41,11 @@ impl Field {
             Field::Link1 => "B",
             Field::Kind => "K",
             Field::Value => "V",
-        }
+        })
     }
+}
 
+impl Field {
     fn range(self) -> &'static str {
         match self {
             Field::Make => "deferring or eager",
@@ -50,28 +57,21 @@ impl Field {
     }
 }
 
-// Why a line cannot be read.
+// Why a line cannot be read, or cannot be answered where it stands.
 #[derive(Clone, Copy)]
 pub enum Unreadable<'a> {
     UnknownCommand(&'a str),
     Missing(Field),
-    NoNumber(Field, &'a str),
-    OutOfRange(Field, &'a str),
+    // a word that its field does not take
+    Unfit(Misfit, Field, &'a str),
     // the first word past the last field
     Extra(&'a str),
     // a word of a rule has a character that is no hexadecimal digit
     NoDigits(&'a str),
     // a word of a rule ends with one digit of a byte
     HalfByte(&'a str),
-}
-
-impl<'a> Unreadable<'a> {
-    pub fn unfit(why: Misfit, field: Field, word: &'a str) -> Unreadable<'a> {
-        match why {
-            Misfit::NoNumber => Unreadable::NoNumber(field, word),
-            Misfit::OutOfRange => Unreadable::OutOfRange(field, word),
-        }
-    }
+    // it asks a bench, and none is set up
+    NoStore,
 }
 
 // A word is quoted with its control characters escaped, since it goes to a terminal.
@@ -79,22 +79,50 @@ impl fmt::Display for Unreadable<'_> {
     fn fmt<W: fmt::Write>(&self, f: &mut fmt::Formatter<W>) -> fmt::Result {
         match *self {
             Unreadable::UnknownCommand(word) => write!(f, "unknown command {word:?}"),
-            Unreadable::Missing(field) => {
-                let name = field.name();
-                write!(f, "{name} is missing")
+            Unreadable::Missing(field) => write!(f, "{field} is missing"),
+            Unreadable::Unfit(Misfit::NoNumber, field, word) => {
+                write!(f, "{field} is not a number: {word:?}")
             }
-            Unreadable::NoNumber(field, word) => {
-                let name = field.name();
-                write!(f, "{name} is not a number: {word:?}")
-            }
-            Unreadable::OutOfRange(field, word) => {
-                let name = field.name();
-                let range = field.range();
-                write!(f, "{name} is not {range}: {word:?}")
+            Unreadable::Unfit(Misfit::OutOfRange, field, word) => {
+                write!(f, "{field} is not {}: {word:?}", field.range())
             }
             Unreadable::Extra(word) => write!(f, "one word too many: {word:?}"),
             Unreadable::NoDigits(word) => write!(f, "HEX is not hexadecimal digits: {word:?}"),
             Unreadable::HalfByte(word) => write!(f, "HEX is not two digits a byte: {word:?}"),
+            Unreadable::NoStore => f.write_str(
+                "no store is set up yet: begin with store deferring N or store eager N",
+            ),
         }
+    }
+}
+
+// Why a line is not answered.
+#[derive(Clone, Copy)]
+pub enum Misread<'a> {
+    NoMemory(AllocError),
+    Unreadable(Unreadable<'a>),
+}
+
+impl<'a> From<AllocError> for Misread<'a> {
+    ghost from_gives = { λ e r. r ≡ NoMemory e };
+
+    fn from(e: AllocError) -> Misread<'a> {
+        Misread::NoMemory(e)
+    }
+}
+
+impl<'a, T: Drop> From<AllocFailed<T>> for Misread<'a> {
+    ghost from_gives = { λ _ r. (e : AllocError) × (r ≡ NoMemory e) };
+
+    fn from(e: AllocFailed<T>) -> Misread<'a> {
+        Misread::NoMemory(AllocError::from(e))
+    }
+}
+
+impl<'a> From<Unreadable<'a>> for Misread<'a> {
+    ghost from_gives = { λ e r. r ≡ Unreadable e };
+
+    fn from(why: Unreadable<'a>) -> Misread<'a> {
+        Misread::Unreadable(why)
     }
 }

@@ -6,7 +6,8 @@ use Rattle.rule.specs.declared.fault.Flaw.{Flaw}
 use Rattle.rule.specs.declared.fault.Flaw.TheVariants.{TooMany, TooDeep, Trailing}
 use Rattle.rule.specs.Sheet.{Step, Fork, make, copy, release, rebuild, put, sum, difference, look, match, test, Block, opened, step_bytes, fork_bytes, written, records}
 use Rattle.rule.specs.Read.{Rec, plain, branch, last, record_at, Tree, before_arms, tree}
-use Rattle.rule.specs.Check.{step_marks, fork_marks, step_links, fork_links, step_touches, fork_touches, after, record_flaws, done_flaw, size, too_many, too_deep, at_place, Claims, tests, first}
+use Rattle.bench.specs.Tests.{after_touches, first}
+use Rattle.rule.specs.Check.{step_marks, fork_marks, step_links, fork_links, step_touches, fork_touches, record_flaws, done_flaw, size, too_many, too_deep, at_place, Claims, tests}
 use Rattle.rule.specs.Allowed.{Fits, Ways, Shallow}
 use Rattle.rule.proofs.Bytes.{Bytes, bytes_left, bytes_right}
 use Rattle.rule.proofs.Reading.{written_read, read_written}
@@ -22,7 +23,7 @@ module _ (h : Claims) where
   pub record Stepped (s : Step) (k : Tree) (n d : ℕ) (u : List Bool) : Type 0 where
     pub few : n < 1024
     pub goes : Goes h.own (step_marks s) (step_links s) (step_touches s) u
-    pub next : Clear k (n + 1) d (after (step_touches s) u)
+    pub next : Clear k (n + 1) d (after_touches (step_touches s) u)
 
   pub clear_step : (p : ℕ) (s : Step) (k : Tree) (n d : ℕ) (u : List Bool) → Clear (Tree.step p s k) n d u → Stepped s k n d u
   unfolding tests
@@ -32,7 +33,7 @@ module _ (h : Claims) where
       let r = first_cons (too_many n) flaws (first_placed p (too_many n ∷ flaws) q.0) in
       record { few = ltb-true n 1024 (unless_true _ _ r.0); goes = record_goes h.own (step_marks s) (step_links s) (step_touches s) u r.1; next = q.1 }
 
-  pub step_clear : (p : ℕ) (s : Step) (k : Tree) (n d : ℕ) (u : List Bool) → n < 1024 → first (record_flaws h.own (step_marks s) (step_links s) (step_touches s) u) ≡ None → Clear k (n + 1) d (after (step_touches s) u) → Clear (Tree.step p s k) n d u
+  pub step_clear : (p : ℕ) (s : Step) (k : Tree) (n d : ℕ) (u : List Bool) → n < 1024 → first (record_flaws h.own (step_marks s) (step_links s) (step_touches s) u) ≡ None → Clear k (n + 1) d (after_touches (step_touches s) u) → Clear (Tree.step p s k) n d u
   unfolding tests
   step_clear p s k n d u few good next =
       let flaws = record_flaws h.own (step_marks s) (step_links s) (step_touches s) u in
@@ -43,7 +44,7 @@ module _ (h : Claims) where
     pub few : n < 1024
     pub shallow : d < 16
     pub goes : Goes h.own (fork_marks f) (fork_links f) (fork_touches f) u
-    pub on_yes : Clear a (n + 1) (d + 1) (after (fork_touches f) u)
+    pub on_yes : Clear a (n + 1) (d + 1) (after_touches (fork_touches f) u)
     pub on_no : Clear b (n + 1 + size a) (d + 1) u
 
   pub clear_fork : (p : ℕ) (f : Fork) (a b : Tree) (n d : ℕ) (u : List Bool) → Clear (Tree.fork p f a b) n d u → Forked f a b n d u
@@ -53,18 +54,18 @@ module _ (h : Claims) where
       let q = first_append (map (at_place p) (too_many n ∷ (too_deep d ∷ flaws))) _ e in
       let r = first_cons (too_many n) (too_deep d ∷ flaws) (first_placed p (too_many n ∷ (too_deep d ∷ flaws)) q.0) in
       let s = first_cons (too_deep d) flaws r.1 in
-      let arms = first_append (tests h a (n + 1) (d + 1) (after (fork_touches f) u)) _ q.1 in
+      let arms = first_append (tests h a (n + 1) (d + 1) (after_touches (fork_touches f) u)) _ q.1 in
       record { few = ltb-true n 1024 (unless_true _ _ r.0); shallow = ltb-true d 16 (unless_true _ _ s.0); goes = record_goes h.own (fork_marks f) (fork_links f) (fork_touches f) u s.1; on_yes = arms.0; on_no = arms.1 }
 
   pub fork_clear : (p : ℕ) (f : Fork) (a b : Tree) (n d : ℕ) (u : List Bool) → n < 1024 → d < 16 → first (record_flaws h.own (fork_marks f) (fork_links f) (fork_touches f) u) ≡ None
-      → Clear a (n + 1) (d + 1) (after (fork_touches f) u) → Clear b (n + 1 + size a) (d + 1) u → Clear (Tree.fork p f a b) n d u
+      → Clear a (n + 1) (d + 1) (after_touches (fork_touches f) u) → Clear b (n + 1 + size a) (d + 1) u → Clear (Tree.fork p f a b) n d u
   unfolding tests
   fork_clear p f a b n d u few deep good yes' no' =
       let flaws = record_flaws h.own (fork_marks f) (fork_links f) (fork_touches f) u in
       let shallow = cons_first (too_deep d) flaws (true_unless _ TooDeep (lt-ltb d 16 deep)) good in
       append_first (map (at_place p) (too_many n ∷ (too_deep d ∷ flaws))) _
       (placed_first p (too_many n ∷ (too_deep d ∷ flaws)) (cons_first (too_many n) (too_deep d ∷ flaws) (true_unless _ TooMany (lt-ltb n 1024 few)) shallow))
-      (append_first (tests h a (n + 1) (d + 1) (after (fork_touches f) u)) _ yes' no')
+      (append_first (tests h a (n + 1) (d + 1) (after_touches (fork_touches f) u)) _ yes' no')
 
   pub clear_done : (p n d : ℕ) (u : List Bool) → Clear (Tree.done p) n d u → (n < 1024) × (done_flaw h.out u ≡ None)
   unfolding tests
@@ -112,7 +113,7 @@ module _ (h : Claims) where
         let shape : tree p xs ≡ Tree.step p s (tree q rest) = tree_ok p xs (plain s) rest is in
         let c : Stepped h s (tree q rest) n d u = clear_step h p s (tree q rest) n d u (subst (λ t. Clear h t n d u) shape e) in
         let w = read_written xs bytes (plain s) rest is in
-        let v : List Bool = after (step_touches s) u in
+        let v : List Bool = after_touches (step_touches s) u in
         let less = (shorter xs (plain s) rest is).0 in
         let g : BlockOf h rest (tree q rest) (n + 1) d v =
         found q rest (n + 1) d v (omega arith) (bytes_right (step_bytes s) rest (subst Bytes w.0 bytes)) (length_after (step_touches s) u ∙ same) c.next in
@@ -136,7 +137,7 @@ module _ (h : Claims) where
         let c : Forked h f (tree qa a) (tree qb b) n d u = clear_fork h p f (tree qa a) (tree qb b) n d u (subst (λ t. Clear h t n d u) shape e) in
         let w = read_written xs bytes (branch f a b) [] is in
         let arms = arms_bytes f a b [] (subst Bytes w.0 bytes) in
-        let v : List Bool = after (fork_touches f) u in
+        let v : List Bool = after_touches (fork_touches f) u in
         let less = (shorter xs (branch f a b) [] is).1 in
         let y : BlockOf h a (tree qa a) (n + 1) (d + 1) v =
         found qa a (n + 1) (d + 1) v (omega (arith, less, some_before f)) arms.0 (length_after (fork_touches f) u ∙ same) c.on_yes in
@@ -208,7 +209,7 @@ module _ (h : Claims) where
       let q : ℕ = p + (length (step_bytes s ++ written k) - length (written k)) in
       let shape : tree p (step_bytes s ++ written k) ≡ Tree.step p s (tree q (written k)) =
       tree_ok p (step_bytes s ++ written k) (plain s) (written k) (written_read (plain s) fits.0.2 (written k)) in
-      let v : List Bool = after (step_touches s) u in
+      let v : List Bool = after_touches (step_touches s) u in
       let k' : Passing q (n + 1) d v k =
       passing k q (n + 1) d v (omega arith) deep fits.1 (subst (Ways h.out k) (moved (step_touches s) u ways.0 ways.1) ways.2) in
       let good = goes_record h.own (step_marks s) (step_links s) (step_touches s) u ways.0 fits.0.0 fits.0.1 ways.1 in
@@ -220,7 +221,7 @@ module _ (h : Claims) where
       let is : record_at bytes ≡ Ok (branch f (written a) (written b), []) =
       ap record_at (sym (append-nil bytes)) ∙ written_read (branch f (written a) (written b)) (written_long a, written_long b) [] in
       let shape : tree p bytes ≡ Tree.fork p f (tree qa (written a)) (tree qb (written b)) = tree_ok p bytes (branch f (written a) (written b)) [] is in
-      let v : List Bool = after (fork_touches f) u in
+      let v : List Bool = after_touches (fork_touches f) u in
       let y : Passing qa (n + 1) (d + 1) v a =
       passing a qa (n + 1) (d + 1) v (omega arith) deep.1 fits.1 (subst (Ways h.out a) (moved (fork_touches f) u ways.0.0 ways.0.1) ways.0.2) in
       let count = y.1 in

@@ -1,12 +1,13 @@
 -- What the check answers for the bytes of a block, by the record that is read at their front.
-use Rattle.std.proofs.Common.{◌≡◌, ℕ, ◌+◌, ◌-◌, ◌<◌, ◌≤◌, Bool, true, false, eqb, List, [], ◌∷◌, length, IfOk, Ok, Err, Result, sym, refl, ap, ◌∙◌, subst, arith, Bor, true-eqb, false-eqb}
+use Rattle.std.proofs.Common.{◌≡◌, ℕ, ◌+◌, ◌-◌, ◌<◌, ◌≤◌, Bool, true, false, eqb, List, [], ◌∷◌, length, IfOk, MatchResult, IsErrAnd, Ok, Err, Result, sym, refl, ap, ◌∙◌, subst, arith, Bor, true-eqb, false-eqb}
+use Rattle.std.proofs.lemmas.Bool.{false≢true}
 use Rattle.rule.specs.declared.fault.Flaw.{Flaw}
 use Rattle.rule.specs.declared.fault.Flaw.TheVariants.{TooMany, Trailing}
 use Rattle.rule.specs.declared.fault.Spot.{Spot}
 use Rattle.rule.specs.declared.record.Record.{Record}
 use Rattle.rule.specs.declared.record.Record.TheVariants.{Make, Copy, Release, Rebuild, Set, Sum, Difference, Look, Match, Test, Done}
 use Rattle.rule.specs.Sheet.{Step, make, copy, release, rebuild, put, sum, difference, look, Fork}
-use Rattle.rule.specs.Read.{Rec, plain, branch, last, record_at, Tree, step, fork, done, broken, closed, before_arms, grown_at, grown, tree}
+use Rattle.rule.specs.Read.{Rec, plain, branch, last, closes, record_at, Tree, step, fork, done, broken, closed, before_arms, grown_at, grown, tree}
 use Rattle.rule.specs.Shown.{shown}
 use Rattle.rule.specs.Check.{Claims, done_flaw, at_place, verdict, block_answer}
 use Rattle.rule.proofs.Grown.{tree_step, tree_err, tree_ok}
@@ -47,11 +48,13 @@ module _ (h : Claims) (p : ℕ) (xs : List ℕ) (n d : ℕ) (u : List Bool) wher
     grows : (q : Rec) → r ≡ q → tree p xs ≡ grown_at tree p (length xs) q rest
     grows q e = tree_ok p xs r rest (sym is) ∙ ap (λ (x : Rec). grown_at tree p (length xs) x rest) e
 
-    pub fork_trailing : (f : Fork) (ya na : List ℕ) → r ≡ branch f ya na → n < 1024 → false ≡ eqb (length rest) 0 → of (tree p xs) ≡ Err (spot p Trailing)
-    fork_trailing f ya na e l z = ap of (grows (branch f ya na) e ∙ open_tail p _ rest z) ∙ answer_broken h n d u l p Trailing
-
-    pub done_trailing : r ≡ last → n < 1024 → false ≡ eqb (length rest) 0 → of (tree p xs) ≡ Err (spot p Trailing)
-    done_trailing e l z = ap of (grows last e ∙ open_tail p _ rest z) ∙ answer_broken h n d u l p Trailing
+    pub trailing : true ≡ closes r → n < 1024 → false ≡ eqb (length rest) 0 → of (tree p xs) ≡ Err (spot p Trailing)
+    trailing c l z = by r refl c
+      where
+        by : (q : Rec) → r ≡ q → true ≡ closes q → of (tree p xs) ≡ Err (spot p Trailing)
+        by (plain s) e c = absurd (false≢true (sym c))
+        by (branch f ya na) e c = ap of (grows (branch f ya na) e ∙ open_tail p _ rest z) ∙ answer_broken h n d u l p Trailing
+        by last e c = ap of (grows last e ∙ open_tail p _ rest z) ∙ answer_broken h n d u l p Trailing
 
     pub forked : (f : Fork) (ya na : List ℕ) → r ≡ branch f ya na → true ≡ eqb (length rest) 0 → of (tree p xs) ≡ of (fork p f (tree (p + before_arms f) ya) (tree (p + before_arms f + length ya) na))
     forked f ya na e z = ap of (grows (branch f ya na) e ∙ no_tail p _ rest z)
@@ -75,6 +78,22 @@ is_plain (Look r s) m t e = (look r s, refl)
 is_plain (Match r k s a b ya na) m t e = absurd (m r k s a b ya na refl)
 is_plain (Test x y ya na) m t e = absurd (t x y ya na refl)
 is_plain Done m t e = absurd (e refl)
+
+-- what a closure, of which L is known, makes of the flaw of a result
+module _ {A : Type 0} {o : Result A Flaw} {r : Result A Spot} (L : Flaw → Spot → Type 0) where
+  pub mapped_ok : {x : A} → MatchResult o (λ y. r ≡ Ok y) (λ e. IsErrAnd r (L e)) → r ≡ Ok x → o ≡ Ok x
+  mapped_ok {x} = by o
+    where
+      by : (q : Result A Flaw) → MatchResult q (λ y. r ≡ Ok y) (λ e. IsErrAnd r (L e)) → r ≡ Ok x → q ≡ Ok x
+      by (Ok y) m e = let z : ◌≡◌ {A = Result A Spot} (Ok y) (Ok x) = sym m ∙ e in cc
+      by (Err f) m e = absurd (subst (λ (q : Result A Spot). IsErrAnd q (L f)) e m)
+
+  pub mapped_err : {s : Spot} → MatchResult o (λ y. r ≡ Ok y) (λ e. IsErrAnd r (L e)) → r ≡ Err s → (e : Flaw) × (o ≡ Err e) × L e s
+  mapped_err {s} = by o
+    where
+      by : (q : Result A Flaw) → MatchResult q (λ y. r ≡ Ok y) (λ e. IsErrAnd r (L e)) → r ≡ Err s → (e : Flaw) × (q ≡ Err e) × L e s
+      by (Ok y) m e = absurd (let z : Ok y ≡ Err s = sym m ∙ e in cc)
+      by (Err f) m e = (f, refl, subst (λ (q : Result A Spot). IsErrAnd q (L f)) e m)
 
 -- a refusal counts nothing
 pub no_count : {r : Result ℕ Spot} {x : Spot} (P : ℕ → Type 0) → r ≡ Err x → IfOk r P

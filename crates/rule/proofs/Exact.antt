@@ -1,12 +1,13 @@
 -- The check passes exactly the rules that the sheet allows.
 use Rattle.std.proofs.Common.{◌≡◌, ℕ, suc, ◌+◌, ◌≤◌, ltb, List, [], ◌∷◌, ◌++◌, length, Some, None, Ok, Err, Option, Result, sym, refl, ap, ◌∙◌, subst, arith}
 use Rattle.std.proofs.lemmas.Bool.{cond_both, cond-false, ltb-false, le-ltb}
+use Rattle.bench.specs.Tests.{first}
 use Rattle.rule.specs.declared.fault.Flaw.{Flaw}
 use Rattle.rule.specs.declared.fault.Spot.{Spot}
 use Rattle.rule.specs.declared.fault.RuleFault.TheVariants.{TooLong, Flawed}
 use Rattle.rule.specs.Sheet.{Head, written}
 use Rattle.rule.specs.Read.{head_at, tree}
-use Rattle.rule.specs.Check.{marked, head_flaw, size, at_place, Claims, tests, first, verdict, headed, by_head, faulted, answer}
+use Rattle.rule.specs.Check.{marked, head_flaw, size, at_place, Claims, tests, verdict, headed, by_head, faulted, answer}
 use Rattle.rule.specs.Allowed.{Allowed, PassesExactly}
 use Rattle.rule.proofs.Bytes.{Bytes, bytes_right}
 use Rattle.rule.proofs.Reading.{head_bytes, head_read, head_written}

@@ -1,15 +1,17 @@
 -- The tests of one record: none fails exactly when its fields fit and its way with the roots goes well.
-use Rattle.std.proofs.Common.{◌≡◌, ℕ, Bool, true, false, not, ◌||◌, eqb, ltb, List, [], ◌∷◌, ◌++◌, map, length, set, Some, None, Option, sym, refl, ap, ◌∙◌, subst, inl, inr, ⊎_elim}
-use Rattle.std.proofs.lemmas.Bool.{or_cases, or_left, or_right, ltb-true, lt-ltb, eqb-true, eq-eqb, not_from_false}
+use Rattle.std.proofs.Common.{◌≡◌, ℕ, Bool, true, false, ◌||◌, eqb, ltb, List, [], ◌∷◌, ◌++◌, map, length, set, Some, None, Option, option_map, sym, refl, ap, ◌∙◌, subst, inl, inr, ⊎_elim}
+use Rattle.std.proofs.lemmas.Bool.{or_cases, or_left, or_right, ltb-true, lt-ltb, eqb-true, eq-eqb, cond-true, cond-false}
 use Rattle.std.proofs.lemmas.List.{length-set}
 use Rattle.bench.specs.declared.call.Touch.{Touch}
 use Rattle.bench.specs.declared.call.Touch.TheVariants.{Use, Spend, Fill}
-use Rattle.bench.specs.Tests.{in_use}
+use Rattle.bench.specs.Tests.{in_use, after_touches, first}
+use Rattle.bench.specs.declared.fault.TouchFault.TheVariants.{Empty, InUse}
+use Rattle.bench.proofs.Passes.{none_mapped, true_from_none, false_from_none}
 use Rattle.rule.specs.declared.mark.Mark.{Mark}
-use Rattle.rule.specs.declared.mark.Mark.TheVariants.{Root, Link, Slot, Free}
+use Rattle.rule.specs.declared.mark.Mark.TheVariants.{Root, Link, Slot}
 use Rattle.rule.specs.declared.fault.Flaw.{Flaw}
 use Rattle.rule.specs.declared.fault.Flaw.TheVariants.{LinksUnfit}
-use Rattle.rule.specs.Check.{after, unless, mark_flaw, own_flaw, touch_flaw, touch_flaws, record_flaws, at_place, first}
+use Rattle.rule.specs.Check.{unless, mark_flaw, own_flaw, touch_flawed, touch_flaw, touch_flaws, record_flaws, at_place}
 use Rattle.rule.specs.Allowed.{FitsMark, FitAll, Moves}
 
 abbrev IsNone : {A : Type 0} → Option A → Type 0
@@ -56,10 +58,6 @@ unless_true false e h = absurd (some_none e h)
 pub true_unless : (b : Bool) (e : Flaw) → b ≡ true → unless b e ≡ None
 true_unless b e h = ap (λ t. unless t e) h
 
-true_not : (b : Bool) → not b ≡ true → b ≡ false
-true_not true e = sym e
-true_not false e = refl
-
 -- fields
 link_fits : (own : List Bool) (r : ℕ) → (ltb r 16 || eqb r 255) ≡ true → (in_use own r || eqb r 255) ≡ true → FitsMark own (Link r)
 link_fits own r e f = ⊎_elim
@@ -71,14 +69,12 @@ mark_fits : (own : List Bool) (m : Mark) → mark_flaw m ≡ None → own_flaw o
 mark_fits own (Root r) e f = (ltb-true r 16 (unless_true _ _ e), unless_true _ _ f)
 mark_fits own (Link r) e f = link_fits own r (unless_true _ _ e) (unless_true _ _ f)
 mark_fits own (Slot s) e f = ltb-true s 8 (unless_true _ _ e)
-mark_fits own Free e f = tt
 
 fits_mark : (own : List Bool) (m : Mark) → FitsMark own m → (mark_flaw m ≡ None) × (own_flaw own m ≡ None)
 fits_mark own (Root r) h = (true_unless _ _ (lt-ltb r 16 h.0), true_unless _ _ h.1)
 fits_mark own (Link r) (inl h) = (true_unless _ _ (or_left (ltb r 16) (eqb r 255) (lt-ltb r 16 h.0)), true_unless _ _ (or_left (in_use own r) (eqb r 255) h.1))
 fits_mark own (Link r) (inr h) = (true_unless _ _ (or_right (ltb r 16) (eqb r 255) (eq-eqb r 255 h)), true_unless _ _ (or_right (in_use own r) (eqb r 255) (eq-eqb r 255 h)))
 fits_mark own (Slot s) h = (true_unless _ _ (lt-ltb s 8 h), refl)
-fits_mark own Free h = (refl, refl)
 
 marks_fit : (own : List Bool) (ms : List Mark) → first (map mark_flaw ms) ≡ None → first (map (own_flaw own) ms) ≡ None → FitAll own ms
 marks_fit own [] e f = tt
@@ -95,34 +91,34 @@ fit_marks own (m ∷ ms) h =
     (cons_first (mark_flaw m) _ p.0 q.0, cons_first (own_flaw own m) _ p.1 q.1)
 
 -- roots
-moves : (ts : List (Option Touch)) (u : List Bool) → first (touch_flaws ts u) ≡ None → Moves ts u (after ts u)
+moves : (ts : List (Option Touch)) (u : List Bool) → first (touch_flaws ts u) ≡ None → Moves ts u (after_touches ts u)
 moves [] u e = refl
 moves (None ∷ ts) u e = moves ts u e
 moves (Some (Use r) ∷ ts) u e =
     let p = first_cons (touch_flaw (Use r) u) (touch_flaws ts u) e in
-    (unless_true _ _ p.0, moves ts u p.1)
+    ((true_from_none _ None (Empty r) (none_mapped touch_flawed _ p.0)).0, moves ts u p.1)
 moves (Some (Spend r) ∷ ts) u e =
     let p = first_cons (touch_flaw (Spend r) u) (touch_flaws ts (set u r false)) e in
-    (unless_true _ _ p.0, moves ts (set u r false) p.1)
+    ((true_from_none _ None (Empty r) (none_mapped touch_flawed _ p.0)).0, moves ts (set u r false) p.1)
 moves (Some (Fill r) ∷ ts) u e =
     let p = first_cons (touch_flaw (Fill r) u) (touch_flaws ts (set u r true)) e in
-    (true_not _ (unless_true _ _ p.0), moves ts (set u r true) p.1)
+    (false_from_none _ (InUse r) (none_mapped touch_flawed _ p.0), moves ts (set u r true) p.1)
 
 no_flaws : (ts : List (Option Touch)) (u v : List Bool) → Moves ts u v → first (touch_flaws ts u) ≡ None
 no_flaws [] u v m = refl
 no_flaws (None ∷ ts) u v m = no_flaws ts u v m
-no_flaws (Some (Use r) ∷ ts) u v m = cons_first (touch_flaw (Use r) u) _ (true_unless _ _ m.0) (no_flaws ts u v m.1)
-no_flaws (Some (Spend r) ∷ ts) u v m = cons_first (touch_flaw (Spend r) u) _ (true_unless _ _ m.0) (no_flaws ts (set u r false) v m.1)
-no_flaws (Some (Fill r) ∷ ts) u v m = cons_first (touch_flaw (Fill r) u) _ (true_unless _ _ (not_from_false _ m.0)) (no_flaws ts (set u r true) v m.1)
+no_flaws (Some (Use r) ∷ ts) u v m = cons_first (touch_flaw (Use r) u) _ (ap (option_map touch_flawed) (cond-true _ _ _ m.0)) (no_flaws ts u v m.1)
+no_flaws (Some (Spend r) ∷ ts) u v m = cons_first (touch_flaw (Spend r) u) _ (ap (option_map touch_flawed) (cond-true _ _ _ m.0)) (no_flaws ts (set u r false) v m.1)
+no_flaws (Some (Fill r) ∷ ts) u v m = cons_first (touch_flaw (Fill r) u) _ (ap (option_map touch_flawed) (cond-false _ _ _ m.0)) (no_flaws ts (set u r true) v m.1)
 
-pub moved : (ts : List (Option Touch)) (u v : List Bool) → Moves ts u v → v ≡ after ts u
+pub moved : (ts : List (Option Touch)) (u v : List Bool) → Moves ts u v → v ≡ after_touches ts u
 moved [] u v m = m
 moved (None ∷ ts) u v m = moved ts u v m
 moved (Some (Use r) ∷ ts) u v m = moved ts u v m.1
 moved (Some (Spend r) ∷ ts) u v m = moved ts (set u r false) v m.1
 moved (Some (Fill r) ∷ ts) u v m = moved ts (set u r true) v m.1
 
-pub length_after : (ts : List (Option Touch)) (u : List Bool) → length (after ts u) ≡ length u
+pub length_after : (ts : List (Option Touch)) (u : List Bool) → length (after_touches ts u) ≡ length u
 length_after [] u = refl
 length_after (None ∷ ts) u = length_after ts u
 length_after (Some (Use r) ∷ ts) u = length_after ts u
@@ -133,7 +129,7 @@ length_after (Some (Fill r) ∷ ts) u = length_after ts (set u r true) ∙ lengt
 pub record Goes (own : List Bool) (marks : List Mark) (links : Bool) (ts : List (Option Touch)) (u : List Bool) : Type 0 where
   pub fit : FitAll own marks
   pub linked : links ≡ true
-  pub move : Moves ts u (after ts u)
+  pub move : Moves ts u (after_touches ts u)
 
 module _ (own : List Bool) (marks : List Mark) (links : Bool) (ts : List (Option Touch)) (u : List Bool) where
   pub record_goes : first (record_flaws own marks links ts u) ≡ None → Goes own marks links ts u

@@ -1,72 +1,57 @@
--- Sixteen flags, set and compared one after another.
-use Rattle.std.proofs.Common.{◌≡◌, ℕ, zero, suc, ◌+◌, ◌-◌, ◌/◌, ◌%◌, ◌<◌, ◌≤◌, Bool, true, false, not, ◌||◌, eqb, List, [], ◌∷◌, ◌++◌, length, get_or, take, drop, set, Some, None, sym, refl, ap, ◌∙◌, append_assoc, append-nil, arith}
+-- Sixteen flags, made and compared.
+use Rattle.std.proofs.Common.{◌≡◌, ℕ, zero, suc, ◌+◌, ◌/◌, ◌%◌, ◌^◌, ◌<◌, Bool, true, false, not, ◌||◌, eqb, List, [], ◌∷◌, length, get_or, sym, refl, ap, ◌∙◌, subst, arith}
 use mathlib.Core.Bool.{beq}
-use Rattle.std.proofs.lemmas.List.{take_more_set, at_drop_more, at_drop_all, take_all}
-use Rattle.std.proofs.lemmas.Bool.{true≢false, false≢true}
+use denote.Param.Members.{Mut}
+use Rattle.std.specs.Array.{IsFromFnResult, IsFromFnResultFrom}
+use Rattle.std.specs.Fn.{Called}
+use Rattle.std.specs.List.{zip, position_from}
+use Rattle.std.specs.Int.Bits.{bit_and}
+use Rattle.std.proofs.Math.Nat.{div-one}
+use Rattle.std.specs.Int.{bit_at}
+use Rattle.std.proofs.lemmas.Nat.Bits.{shr_and_one, bit_at-suc}
+use Rattle.std.proofs.lemmas.List.{same_lists}
 use Rattle.rule.specs.Check.{bits, either, differing}
 
--- one flag more is set, of a list that goes on with it
-pub more_set : (fs rest : List Bool) (i : ℕ) (x : Bool) → i < length fs → take (i + 1) (set fs i x) ++ rest ≡ take i fs ++ x ∷ rest
-more_set fs rest i x l = ap (λ (q : List Bool). q ++ rest) (take_more_set fs i x l) ∙ append_assoc (take i fs) (x ∷ []) rest
+-- an array made by a closure that keeps what it captures has, at each place, what the closure gives there
+module _ {F B : Type 0} (g : Mut F (ℕ × Unit {0}) B) (f : F) (h : ℕ → B) (gives : (i : ℕ) (y : B) (q : F) → Called g f (i, tt) y q → (q ≡ f) × (y ≡ h i)) (ys : List B) where
+  made_from : (n i j : ℕ) (d : B) → IsFromFnResultFrom g f ys i n → j < n → get_or ys (i + j) d ≡ h (i + j)
+  made_from zero i j d m l = absurd (omega (arith, l))
+  made_from (suc n) i zero d m l = subst (λ q. get_or ys q d ≡ h q) (let z : i ≡ i + 0 = omega arith in z) (m.2.1 d ∙ (gives i m.1 m.0 m.3).1)
+  made_from (suc n) i (suc j) d m l =
+      subst (λ q. get_or ys q d ≡ h q) (let z : i + 1 + j ≡ i + suc j = omega arith in z)
+      (made_from n (i + 1) j d (subst (λ q. IsFromFnResultFrom g q ys (i + 1) n) (gives i m.1 m.0 m.3).0 m.4) (omega (arith, l)))
 
-bits_more : (k m : ℕ) → 0 < k → bits k m ≡ eqb (m % 2) 1 ∷ bits (k - 1) (m / 2)
-bits_more zero m h = absurd (omega arith)
-bits_more (suc k) m h = ap (λ j. eqb (m % 2) 1 ∷ bits j (m / 2)) (omega arith)
+  pub made : (n : ℕ) → IsFromFnResult g f ys n → (zs : List B) → length zs ≡ n → ((k : ℕ) (d : B) → k < n → get_or zs k d ≡ h k) → ys ≡ zs
+  made n m zs l e = same_lists ys zs (m.long ∙ sym l) (λ k d b. let b' : k < n = omega (arith, b, m.long) in subst (λ q. get_or ys q d ≡ h q) (let z : 0 + k ≡ k = omega arith in z) (made_from n 0 k d m.each b') ∙ sym (e k d b'))
 
-pub marks_more : (fs all : List Bool) (i m : ℕ) (x : Bool) → i < length fs → i < 16 → x ≡ eqb (m % 2) 1 → take i fs ++ bits (16 - i) m ≡ all → take (i + 1) (set fs i x) ++ bits (16 - (i + 1)) (m / 2) ≡ all
-marks_more fs all i m x l h e inv =
-    more_set fs (bits (16 - (i + 1)) (m / 2)) i x l
-    ∙ ap (λ (q : List Bool). take i fs ++ q) ((λ t. e t ∷ bits (16 - (i + 1)) (m / 2)) ∙ ap (λ j. eqb (m % 2) 1 ∷ bits j (m / 2)) (omega arith) ∙ sym (bits_more (16 - i) m (omega (arith, h))))
-    ∙ inv
+pub length-bits : (n m : ℕ) → length (bits n m) ≡ n
+length-bits zero m = refl
+length-bits (suc n) m = omega (arith, length-bits n (m / 2))
 
-pub marks_all : (fs all : List Bool) (i m : ℕ) → length fs ≤ i → 16 ≤ i → take i fs ++ bits (16 - i) m ≡ all → fs ≡ all
-marks_all fs all i m l h inv = sym (append-nil fs) ∙ (λ t. sym (take_all i fs l) t ++ []) ∙ (let z : 0 ≡ 16 - i = omega (arith, h) in ap (λ j. take i fs ++ bits j m) z) ∙ inv
+pub bits_at : (n m k : ℕ) (d : Bool) → k < n → get_or (bits n m) k d ≡ eqb (bit_and (m / 2 ^ k) 1) 1
+bits_at n m k d l = by n m k l ∙ ap (λ q. eqb q 1) (sym (shr_and_one m k))
+  where
+    by : (n m k : ℕ) → k < n → get_or (bits n m) k d ≡ eqb (bit_at m k) 1
+    by zero m k l = absurd (omega (arith, l))
+    by (suc n) m zero l = ap (λ q. eqb (q % 2) 1) (sym (div-one m))
+    by (suc n) m (suc k) l = by n (m / 2) k (omega (arith, l)) ∙ ap (λ q. eqb q 1) (sym (bit_at-suc m k))
 
--- the flags at place i, and those after it
-split : {X : Type 0} (f : List Bool → List Bool → X) (a b : List Bool) (i : ℕ) → i < length a → i < length b → f (drop i a) (drop i b) ≡ f (get_or a i false ∷ drop (i + 1) a) (get_or b i false ∷ drop (i + 1) b)
-split f a b i h k = at_drop_more (λ (x : List Bool). f x (drop i b)) a i false h ∙ at_drop_more (λ (y : List Bool). f (get_or a i false ∷ drop (i + 1) a) y) b i false k
+pub length-either : (a b : List Bool) → length (either a b) ≡ length a
+length-either [] b = refl
+length-either (x ∷ a) [] = refl
+length-either (x ∷ a) (y ∷ b) = omega (arith, length-either a b)
 
-pub either_more : (fs a b : List Bool) (i : ℕ) (x : Bool) → i < length fs → i < length a → i < length b → x ≡ (get_or a i false || get_or b i false) → take i fs ++ either (drop i a) (drop i b) ≡ either a b →
-    take (i + 1) (set fs i x) ++ either (drop (i + 1) a) (drop (i + 1) b) ≡ either a b
-either_more fs a b i x l h k e inv =
-    more_set fs (either (drop (i + 1) a) (drop (i + 1) b)) i x l
-    ∙ ap (λ (q : List Bool). take i fs ++ q) ((λ t. e t ∷ either (drop (i + 1) a) (drop (i + 1) b)) ∙ sym (split either a b i h k))
-    ∙ inv
+pub either_at : (a b : List Bool) (k : ℕ) (d : Bool) → k < length a → k < length b → get_or (either a b) k d ≡ (get_or a k false || get_or b k false)
+either_at [] b k d l h = absurd (omega (arith, l))
+either_at (x ∷ a) [] k d l h = absurd (omega (arith, h))
+either_at (x ∷ a) (y ∷ b) zero d l h = refl
+either_at (x ∷ a) (y ∷ b) (suc k) d l h = either_at a b k d (omega (arith, l)) (omega (arith, h))
 
-pub either_all : (fs a b : List Bool) (i : ℕ) → length fs ≤ i → length a ≤ i → take i fs ++ either (drop i a) (drop i b) ≡ either a b → fs ≡ either a b
-either_all fs a b i l h inv = sym (append-nil fs) ∙ (λ t. sym (take_all i fs l) t ++ []) ∙ ap (λ (q : List Bool). take i fs ++ q) (sym (at_drop_all (λ (x : List Bool). either x (drop i b)) a i h)) ∙ inv
-
-same_or : (x y : Bool) (r : ℕ) (xs ys : List Bool) → x ≡ y → differing r (x ∷ xs) (y ∷ ys) ≡ differing (suc r) xs ys
-same_or true true r xs ys e = refl
-same_or false false r xs ys e = refl
-same_or true false r xs ys e = cc
-same_or false true r xs ys e = cc
-
-other_or : (x y : Bool) (r : ℕ) (xs ys : List Bool) → (x ≡ y → ⊥) → differing r (x ∷ xs) (y ∷ ys) ≡ Some r
-other_or true true r xs ys e = absurd (e refl)
-other_or false false r xs ys e = absurd (e refl)
-other_or true false r xs ys e = refl
-other_or false true r xs ys e = refl
-
-module _ (a b : List Bool) (i : ℕ) (h : i < length a) (k : i < length b) (inv : differing i (drop i a) (drop i b) ≡ differing 0 a b) where
-  pub differing_more : get_or a i false ≡ get_or b i false → differing (i + 1) (drop (i + 1) a) (drop (i + 1) b) ≡ differing 0 a b
-  differing_more e = ap (λ j. differing j (drop (i + 1) a) (drop (i + 1) b)) (omega arith) ∙ sym (same_or (get_or a i false) (get_or b i false) i (drop (i + 1) a) (drop (i + 1) b) e) ∙ sym (split (differing i) a b i h k) ∙ inv
-
-  pub differing_here : (get_or a i false ≡ get_or b i false → ⊥) → Some i ≡ differing 0 a b
-  differing_here e = sym (other_or (get_or a i false) (get_or b i false) i (drop (i + 1) a) (drop (i + 1) b) e) ∙ sym (split (differing i) a b i h k) ∙ inv
-
-pub differing_none : (a b : List Bool) (i : ℕ) → length a ≤ i → differing i (drop i a) (drop i b) ≡ differing 0 a b → None ≡ differing 0 a b
-differing_none a b i h inv = sym (at_drop_all (λ (x : List Bool). differing i x (drop i b)) a i h) ∙ inv
-
--- a comparison of flags
-pub differ : (x y : Bool) → not (beq x y) ≡ true → x ≡ y → ⊥
-differ true true e = λ z. absurd (false≢true e)
-differ false false e = λ z. absurd (false≢true e)
-differ true false e = λ z. absurd (true≢false z)
-differ false true e = λ z. absurd (false≢true z)
-
-pub agree : (x y : Bool) → not (beq x y) ≡ false → x ≡ y
-agree true true e = refl
-agree false false e = refl
-agree true false e = absurd (true≢false e)
-agree false true e = absurd (true≢false e)
+-- the first pair of flags that differ
+pub differing_is : (a b : List Bool) (r : ℕ) → position_from (λ (x : Bool × Bool). not (beq x.0 x.1)) r (zip a b) ≡ differing r a b
+differing_is [] b r = refl
+differing_is (x ∷ a) [] r = refl
+differing_is (true ∷ a) (true ∷ b) r = ap (λ i. position_from (λ (x : Bool × Bool). not (beq x.0 x.1)) i (zip a b)) (omega arith) ∙ differing_is a b (suc r)
+differing_is (false ∷ a) (false ∷ b) r = ap (λ i. position_from (λ (x : Bool × Bool). not (beq x.0 x.1)) i (zip a b)) (omega arith) ∙ differing_is a b (suc r)
+differing_is (true ∷ a) (false ∷ b) r = refl
+differing_is (false ∷ a) (true ∷ b) r = refl

@@ -4,7 +4,7 @@ use Rattle.std.proofs.lemmas.Bool.{cond_both, or_parts, and_parts, ltb-false, le
 use Rattle.std.proofs.lemmas.List.{length-take, length-drop}
 use Rattle.rule.specs.declared.fault.Flaw.{Flaw}
 use Rattle.rule.specs.Sheet.{Fork, match, test}
-use Rattle.rule.specs.Read.{Rec, plain, branch, last, le16, Front, front, sized, armed, fields, with_rest, opened_record, record_at, Tree, closed, before_arms, grown_at, grown, tree_by, tree}
+use Rattle.rule.specs.Read.{Rec, plain, branch, last, le16, Front, front, sized, branched, armed, fields, with_rest, opened_record, record_at, Tree, closed, before_arms, grown_at, grown, tree_by, tree}
 
 -- the arms of a record, with the bytes before them, are no longer than n
 abbrev pub ArmsIn : ℕ → Rec → Type 0
@@ -29,7 +29,7 @@ sized_in : (n k : ℕ) (b : List ℕ) (r : Rec) → ArmsIn n r → FieldsIn n (s
 sized_in n k b r h = cond_both (eqb (length b) k) _ _ (FieldsIn n) (λ _. h) (λ _. tt)
 
 armed_in : (n k : ℕ) (f : Fork) (arms : List ℕ) → length arms + before_arms f ≤ n → FieldsIn n (armed f k arms)
-armed_in n k f arms h = cond_both (leb 4 k && leb (k + 4) (length arms)) _ _ (FieldsIn n)
+armed_in n k f arms h = cond_both (leb 4 k && leb (k + 4) (length arms)) _ _ (λ x. FieldsIn n (branched f x))
     (λ e.
     let hi = leb-true (k + 4) (length arms) (and_parts (leb 4 k) (leb (k + 4) (length arms)) e).1 in
     omega (arith, length-take k arms, length-drop k arms))

@@ -5,7 +5,7 @@ use Rattle.std.proofs.lemmas.Bool.{cond_both, cond-true, cond-false, and_parts, 
 use Rattle.std.proofs.lemmas.List.{length-append, length-take, length-drop, take-append-drop, take_at, drop_at, drop_all}
 use Rattle.rule.specs.declared.fault.Flaw.{Flaw}
 use Rattle.rule.specs.Sheet.{Head, Step, make, copy, release, rebuild, put, sum, difference, look, Fork, match, test, two, four, opened, step_bytes, fork_bytes}
-use Rattle.rule.specs.Read.{Rec, plain, branch, last, le16, le32, Front, front, sized, armed, fields, with_rest, opened_record, record_at, head_fields, opened_head, head_at}
+use Rattle.rule.specs.Read.{Rec, plain, branch, last, le16, le32, Front, front, sized, branched, armed, fields, with_rest, opened_record, record_at, head_fields, opened_head, head_at}
 use Rattle.rule.specs.Allowed.{FitsValue}
 use Rattle.rule.proofs.Bytes.{Bytes, two_read, two_written, four_read, four_written, front_opened, Fronted, fronted, from_1, from_2, from_3, from_5, from_4, from_6, from_7, bytes_left}
 
@@ -36,7 +36,7 @@ step_fields (look r s) f rest = reread 9 (r ∷ (s ∷ [])) rest _ refl
 armed_back : (f : Fork) (ya na : List ℕ) (n : ℕ) → length ya ≡ n → 4 ≤ length ya → 4 ≤ length na → armed f n (ya ++ na) ≡ Ok (branch f ya na)
 armed_back f ya na n e a b =
     let long = length-append ya na in
-    cond-true _ _ _ (and_from _ _ (le-leb 4 n (omega arith)) (le-leb (n + 4) (length (ya ++ na)) (omega arith)))
+    ap (branched f) (cond-true _ _ _ (and_from _ _ (le-leb 4 n (omega arith)) (le-leb (n + 4) (length (ya ++ na)) (omega arith))))
     ∙ (λ i. Ok (branch f (take_at ya na n e i) (drop_at ya na n e i)))
 
 fork_fields : (f : Fork) (ya na : List ℕ) → 4 ≤ length ya → 4 ≤ length na → (rest : List ℕ) → record_at (fork_bytes f ya na ++ rest) ≡ Ok (branch f ya na, rest)
@@ -99,7 +99,7 @@ arms_told x y n arms hx e le =
     (λ i. w i ++ take n arms ++ drop n arms) ∙ ap (λ z. x ∷ (y ∷ z)) (take-append-drop n arms)
 
 armed_told : (k n : ℕ) (b arms : List ℕ) (f : Fork) → (n ≤ length arms → fork_bytes f (take n arms) (drop n arms) ≡ opened k b) → Fielded k b (armed f n arms)
-armed_told k n b arms f g = cond_both (leb 4 n && leb (n + 4) (length arms)) _ _ (Fielded k b)
+armed_told k n b arms f g = cond_both (leb 4 n && leb (n + 4) (length arms)) _ _ (λ x. Fielded k b (branched f x))
     (λ e.
     let p = and_parts (leb 4 n) (leb (n + 4) (length arms)) e in
     let lo = leb-true 4 n p.0 in

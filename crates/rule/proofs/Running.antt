@@ -17,12 +17,12 @@ use Rattle.bench.specs.declared.fault.BenchFault.TheVariants.{Store}
 use Rattle.bench.specs.Machine.{Machine, Shaped, spend, spent, links_at, copied, released, parted, made, rebuilt, live, shared}
 use Rattle.bench.specs.Step.{Told, link_roots, node_named, node_of_root, unless_full, act, tested}
 use Rattle.bench.specs.Step as bench
-use Rattle.bench.specs.Tests.{fields, field_fault, link_fault, unless_none, touches, flags, in_use, fault_of}
+use Rattle.bench.specs.Tests.{fields, field_fault, link_fault, unless_none, touches, flags, in_use, fault_of, after_touches}
 use Rattle.bench.proofs.Asked.{made_shaped}
 use Rattle.bench.proofs.Passes.{spendable_taken, fits_arity, make_passes, rebuild_passes, copy_passes}
 use Rattle.rule.specs.Sheet.{Head, Step, make, copy, release, rebuild, put, sum, difference, look, match, test}
 use Rattle.rule.specs.Read.{Tree, step, fork, done, broken, tree}
-use Rattle.rule.specs.Check.{marked, differing, after, step_marks, step_links, step_touches, fork_marks, fork_links, fork_touches, size}
+use Rattle.rule.specs.Check.{marked, differing, step_marks, step_links, step_touches, fork_marks, fork_links, fork_touches, size}
 use Rattle.rule.specs.Allowed.{Moves}
 use Rattle.rule.specs.Run.{slot_at, Ran, call_of, slots_after, asked, unless_stopped, by_match, run, ends, both, RunsWell, CheckedRuns}
 use Rattle.rule.proofs.Firsts.{Goes, length_after}
@@ -52,8 +52,8 @@ module _ (own : List Bool) where
   next_full false u t s r g = g
 
   module _ (n : ℕ) (t : Machine) (u : List Bool) (on : On u t) where
-    to : (ts : List (Option Touch)) (s : Machine) → After own ts t.roots s.roots → Shaped s → On (after ts u) s × Others own t.roots s.roots
-    to ts s g h = (record { roots = subst (λ l. Agreeing own l (after ts u)) (sym g.used) (agree_after own ts (flags t.roots) u on.roots); shaped = h }, g.others)
+    to : (ts : List (Option Touch)) (s : Machine) → After own ts t.roots s.roots → Shaped s → On (after_touches ts u) s × Others own t.roots s.roots
+    to ts s g h = (record { roots = subst (λ l. Agreeing own l (after_touches ts u)) (sym g.used) (agree_after own ts (flags t.roots) u on.roots); shaped = h }, g.others)
 
     -- a call whose tests are passed
     acts : (w : List Bool) (call : Call) → fault_of call (flags t.roots) ≡ None → Next w t (act n t call) → Next w t (bench.step n t call)
@@ -65,33 +65,33 @@ module _ (own : List Bool) where
 
     pub match_passes : (r k s a b : ℕ) → Goes own (fork_marks (match r k s a b)) (fork_links (match r k s a b)) (fork_touches (match r k s a b)) u → fault_of (Match r k a b) (flags t.roots) ≡ None
     match_passes r k s a b g =
-        let la = g.fit.1.1.1.0 in
-        let lb = g.fit.1.1.1.1.0 in
-        passes (Match r k a b) (after (touches (Match r k a b)) u) (links_there own r a b g.fit.0.0 la lb) (kind_fits k a b g.linked)
+        let la = g.fit.1.1.0 in
+        let lb = g.fit.1.1.1.0 in
+        passes (Match r k a b) (after_touches (touches (Match r k a b)) u) (links_there own r a b g.fit.0.0 la lb) (kind_fits k a b g.linked)
         (g.fit.0.1, fill_owned own a (unless_none b (Fill b) ∷ []) la (fill_owned own b [] lb tt)) g.move
 
     -- a match that says yes
     pub parts : (r k s a b : ℕ) → Goes own (fork_marks (match r k s a b)) (fork_links (match r k s a b)) (fork_touches (match r k s a b)) u → (node_of_root t r).kind ≡ k →
-        On (after (fork_touches (match r k s a b)) u) (parted t r (link_roots a b)) × Others own t.roots (parted t r (link_roots a b)).roots
+        On (after_touches (fork_touches (match r k s a b)) u) (parted t r (link_roots a b)) × Others own t.roots (parted t r (link_roots a b)).roots
     parts r k s a b g e =
         let ns = links_at t.nodes (root_at t.roots r) in
         let long : length ns ≡ length (link_roots a b) = links_shaped t on.shaped (root_at t.roots r) ∙ ap arity e ∙ sym (fits_arity k a b g.linked) in
         to (touches (Match r k a b)) (parted t r (link_roots a b))
-        (spend_first own _ t.roots _ r g.fit.0.1 (fill_both own (spend t.roots r) a b ns g.fit.1.1.1.0 g.fit.1.1.1.1.0 long))
+        (spend_first own _ t.roots _ r g.fit.0.1 (fill_both own (spend t.roots r) a b ns g.fit.1.1.0 g.fit.1.1.1.0 long))
         on.shaped
 
-    pub next : (s : Step) (z : List ℤ) → Goes own (step_marks s) (step_links s) (step_touches s) u → Next (after (step_touches s) u) t (asked n t (call_of s z))
+    pub next : (s : Step) (z : List ℤ) → Goes own (step_marks s) (step_links s) (step_touches s) u → Next (after_touches (step_touches s) u) t (asked n t (call_of s z))
     next (make d k s a b) z g =
         let call = Make d k (slot_at z s) a b in
-        let la = g.fit.1.1.1.0 in
-        let lb = g.fit.1.1.1.1.0 in
+        let la = g.fit.1.1.0 in
+        let lb = g.fit.1.1.1.0 in
         let d_own = g.fit.0.1 in
         let new = made t d k (slot_at z s) (link_roots a b) in
         let ok : fault_of call (flags t.roots) ≡ None =
-        passes call (after (touches call) u) (links_there own d a b g.fit.0.0 la lb) (kind_fits k a b g.linked)
+        passes call (after_touches (touches call) u) (links_there own d a b g.fit.0.0 la lb) (kind_fits k a b g.linked)
         (spend_owned own a (unless_none b (Spend b) ∷ (Some (Fill d) ∷ [])) la (spend_owned own b (Some (Fill d) ∷ []) lb (d_own, tt))) g.move in
         let spends = (make_passes t.roots d k (slot_at z s) a b ok).spends in
-        acts (after (touches call) u) call ok (next_full (eqb (live t) n) (after (touches call) u) t new d
+        acts (after_touches (touches call) u) call ok (next_full (eqb (live t) n) (after_touches (touches call) u) t new d
         (to (touches call) new
         (spend_both own (Some (Fill d) ∷ []) t.roots new.roots a b la lb (fill_first own [] (spent t.roots (link_roots a b)) new.roots d (Some (length t.nodes)) refl d_own (at_rest own new.roots)))
         (made_shaped t d k (slot_at z s) (link_roots a b) on.shaped (spendable_taken t.roots (link_roots a b) spends ∙ fits_arity k a b g.linked))))
@@ -99,27 +99,27 @@ module _ (own : List Bool) where
         let new = copied t s d in
         let d_own = g.fit.1.0.1 in
         let ok : fault_of (Copy s d) (flags t.roots) ≡ None =
-        passes (Copy s d) (after (touches (Copy s d)) u) (root_there s (field.Root d ∷ []) g.fit.0.0 (root_there d [] g.fit.1.0.0 refl)) refl (g.fit.0.1, (d_own, tt)) g.move in
-        acts (after (touches (Copy s d)) u) (Copy s d) ok
+        passes (Copy s d) (after_touches (touches (Copy s d)) u) (root_there s (field.Root d ∷ []) g.fit.0.0 (root_there d [] g.fit.1.0.0 refl)) refl (g.fit.0.1, (d_own, tt)) g.move in
+        acts (after_touches (touches (Copy s d)) u) (Copy s d) ok
         (to (touches (Copy s d)) new
         (use_first own (Some (Fill d) ∷ []) t.roots new.roots s (fill_first own [] t.roots new.roots d (root_at t.roots s) (copy_passes t.roots s d ok).used d_own (at_rest own new.roots)))
         on.shaped)
     next (release r) z g =
         let new = released t r in
-        acts (after (touches (Release r)) u) (Release r) (passes (Release r) (set u r false) (root_there r [] g.fit.0.0 refl) refl (g.fit.0.1, tt) g.move)
+        acts (after_touches (touches (Release r)) u) (Release r) (passes (Release r) (set u r false) (root_there r [] g.fit.0.0 refl) refl (g.fit.0.1, tt) g.move)
         (to (touches (Release r)) new (spend_first own [] t.roots new.roots r g.fit.0.1 (at_rest own new.roots)) on.shaped)
     next (rebuild r k s a b) z g =
         let call = Rebuild r k (slot_at z s) a b in
-        let la = g.fit.1.1.1.0 in
-        let lb = g.fit.1.1.1.1.0 in
+        let la = g.fit.1.1.0 in
+        let lb = g.fit.1.1.1.0 in
         let r_own = g.fit.0.1 in
         let new = rebuilt t r k (slot_at z s) (link_roots a b) in
         let base = spend t.roots r in
         let ok : fault_of call (flags t.roots) ≡ None =
-        passes call (after (touches call) u) (links_there own r a b g.fit.0.0 la lb) (kind_fits k a b g.linked)
+        passes call (after_touches (touches call) u) (links_there own r a b g.fit.0.0 la lb) (kind_fits k a b g.linked)
         (r_own, spend_owned own a (unless_none b (Spend b) ∷ (Some (Fill r) ∷ [])) la (spend_owned own b (Some (Fill r) ∷ []) lb (r_own, tt))) g.move in
         let spends = (rebuild_passes t.roots r k (slot_at z s) a b ok).spends in
-        acts (after (touches call) u) call ok (next_full (cond (eqb (live t) n) (shared t r) false) (after (touches call) u) t new r
+        acts (after_touches (touches call) u) call ok (next_full (cond (eqb (live t) n) (shared t r) false) (after_touches (touches call) u) t new r
         (to (touches call) new
         (spend_first own _ t.roots new.roots r r_own
         (spend_both own (Some (Fill r) ∷ []) base new.roots a b la lb (fill_first own [] (spent base (link_roots a b)) new.roots r (Some (length t.nodes)) refl r_own (at_rest own new.roots))))
@@ -158,8 +158,8 @@ module _ (h : Head) where
     unfolding run
     runs (step p s k) z t c m d u l on e =
         let x = clear_step (claims h) p s k m d u e in
-        goes_on p (after (step_touches s) u) t (asked n t (call_of s z)) (λ a r. run n ends k (slots_after s a z) r (c + 1)) (next (marked h.own) n t u on s z x.goes)
-        (λ a r g. runs k (slots_after s a z) r (c + 1) (m + 1) d (after (step_touches s) u) (length_after (step_touches s) u ∙ l) g x.next)
+        goes_on p (after_touches (step_touches s) u) t (asked n t (call_of s z)) (λ a r. run n ends k (slots_after s a z) r (c + 1)) (next (marked h.own) n t u on s z x.goes)
+        (λ a r g. runs k (slots_after s a z) r (c + 1) (m + 1) d (after_touches (step_touches s) u) (length_after (step_touches s) u ∙ l) g x.next)
     runs (fork p (match r k s a b) ya na) z t c m d u l on e =
         let f = match r k s a b in
         let own = marked h.own in
@@ -172,7 +172,7 @@ module _ (h : Head) where
         (cond_both (eqb node.kind k) (Ok (Value node.value), yes) (Ok OtherKind, t) Well
         (λ q.
         let y = parts own n t u on r k s a b g.goes (eqb-true node.kind k q) in
-        carry t yes _ y.1 (runs ya (set z s node.value) yes (c + 1) (m + 1) (d + 1) (after (fork_touches f) u) (length_after (fork_touches f) u ∙ l) y.0 g.on_yes))
+        carry t yes _ y.1 (runs ya (set z s node.value) yes (c + 1) (m + 1) (d + 1) (after_touches (fork_touches f) u) (length_after (fork_touches f) u ∙ l) y.0 g.on_yes))
         (λ _. runs na z t (c + 1) (m + 1 + size ya) (d + 1) u l on g.on_no))
     runs (fork p (test x y) ya na) z t c m d u l on e =
         let g = clear_fork (claims h) p (test x y) ya na m d u e in

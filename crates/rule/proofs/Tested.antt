@@ -1,21 +1,16 @@
 -- The first of several tests that fails.
-use Rattle.std.proofs.Common.{◌≡◌, ℕ, zero, suc, ◌+◌, ◌<◌, ◌≤◌, Bool, List, [], ◌∷◌, ◌++◌, map, length, get_or, drop, replicate, Some, None, Ok, Err, Option, sym, refl, ap, ◌∙◌, arith}
-use Rattle.std.proofs.lemmas.List.{at_drop_more, at_drop_all}
+use Rattle.std.proofs.Common.{◌≡◌, ℕ, zero, suc, ◌≤◌, Bool, List, [], ◌∷◌, ◌++◌, map, length, replicate, Some, None, Option, option_map, option_and_then, sym, refl, ap, ◌∙◌, arith}
 use Rattle.bench.specs.declared.call.Touch.{Touch}
-use Rattle.bench.specs.Tests.{touched}
+use Rattle.bench.specs.Tests.{touch_denied, touched, first_of, first_denied, after_touches, quad, first}
+use Rattle.bench.specs.declared.fault.TouchFault.{TouchFault}
+use Rattle.bench.proofs.Passes.{denied_pad, quad_is}
+use Rattle.rule.specs.declared.mark.Mark.{Mark}
 use Rattle.rule.specs.declared.fault.Flaw.{Flaw}
-use Rattle.rule.specs.Check.{first, touch_flaw, touch_flaws, after}
+use Rattle.rule.specs.declared.fault.Flaw.TheVariants.{LinksUnfit}
+use Rattle.rule.specs.Check.{unless, mark_flaw, own_flaw, touch_flawed, touch_flaw, touch_flaws}
 use Rattle.rule.specs.Sheet.{make, copy, release, rebuild, put, sum, difference, look, match, test}
 use Rattle.rule.specs.Read.{Rec, plain, branch, last}
-use Rattle.rule.specs.Judged.{rec_touches, quad, judged}
-
-pub passed : (o : Option Flaw) (x : Unit {0}) → judged o ≡ Ok x → o ≡ None
-passed None x e = refl
-passed (Some f) x e = cc
-
-pub refused : (o : Option Flaw) (f : Flaw) → judged o ≡ Err f → o ≡ Some f
-refused None f e = cc
-refused (Some g) f e = cc
+use Rattle.rule.specs.Judged.{rec_marks, rec_links, rec_touches, rec_flaws}
 
 module _ {A : Type 0} where
   pub first_on : (xs ys : List (Option A)) → first xs ≡ None → first (xs ++ ys) ≡ first ys
@@ -28,98 +23,95 @@ module _ {A : Type 0} where
   first_stop (None ∷ xs) ys a e = first_stop xs ys a e
   first_stop (Some b ∷ xs) ys a e = e
 
-  -- what is left, by the one that stands next
-  pub first_here : (xs : List (Option A)) (i : ℕ) (o : Option A) → i < length xs → get_or xs i None ≡ o → first (drop i xs) ≡ first (o ∷ drop (i + 1) xs)
-  first_here xs i o l e = at_drop_more (λ (x : List (Option A)). first x) xs i None l ∙ ap (λ (x : Option A). first (x ∷ drop (i + 1) xs)) e
+  pub first_more : (x : Option A) (xs ys : List (Option A)) → first xs ≡ first ys → first (x ∷ xs) ≡ first (x ∷ ys)
+  first_more None xs ys e = e
+  first_more (Some a) xs ys e = refl
 
-  pub first_end : (xs : List (Option A)) (i : ℕ) → length xs ≤ i → first (drop i xs) ≡ None
-  first_end xs i l = at_drop_all (λ (x : List (Option A)). first x) xs i l
+-- the flaw of several touches
+pub denied_flaws : (ts : List (Option Touch)) (used : List Bool) → first (touch_flaws ts used) ≡ option_map touch_flawed (first_denied ts used)
+denied_flaws [] used = refl
+denied_flaws (None ∷ ts) used = denied_flaws ts used
+denied_flaws (Some t ∷ ts) used = first_more (touch_flaw t used) _ (option_map touch_flawed (first_denied ts (touched t used)) ∷ []) (denied_flaws ts (touched t used) ∙ sym (alone _)) ∙ by (touch_denied t used) _
+  where
+    alone : (o : Option Flaw) → first (o ∷ []) ≡ o
+    alone None = refl
+    alone (Some x) = refl
 
--- touches one after another
-module _ (ts : List (Option Touch)) (i : ℕ) (o : Option Touch) (used : List Bool) (l : i < length ts) (e : get_or ts i None ≡ o) where
-  pub flaws_here : touch_flaws (drop i ts) used ≡ touch_flaws (o ∷ drop (i + 1) ts) used
-  flaws_here = at_drop_more (λ (x : List (Option Touch)). touch_flaws x used) ts i None l ∙ ap (λ (x : Option Touch). touch_flaws (x ∷ drop (i + 1) ts) used) e
-
-  pub after_here : after (drop i ts) used ≡ after (o ∷ drop (i + 1) ts) used
-  after_here = at_drop_more (λ (x : List (Option Touch)). after x used) ts i None l ∙ ap (λ (x : Option Touch). after (x ∷ drop (i + 1) ts) used) e
-
--- where the one that stands next is passed
-pub flaws_on : (ts : List (Option Touch)) (i : ℕ) (t : Touch) (used : List Bool) → i < length ts → get_or ts i None ≡ Some t → touch_flaw t used ≡ None → first (touch_flaws (drop (i + 1) ts) (touched t used)) ≡ first (touch_flaws (drop i ts) used)
-flaws_on ts i t used l e p = ap (λ (x : Option Flaw). first (x ∷ touch_flaws (drop (i + 1) ts) (touched t used))) (sym p) ∙ ap (λ (x : List (Option Flaw)). first x) (sym (flaws_here ts i (Some t) used l e))
-
-pub flaws_stop : (ts : List (Option Touch)) (i : ℕ) (t : Touch) (used : List Bool) (f : Flaw) → i < length ts → get_or ts i None ≡ Some t → touch_flaw t used ≡ Some f → first (touch_flaws (drop i ts) used) ≡ Some f
-flaws_stop ts i t used f l e p = ap (λ (x : List (Option Flaw)). first x) (flaws_here ts i (Some t) used l e) ∙ ap (λ (x : Option Flaw). first (x ∷ touch_flaws (drop (i + 1) ts) (touched t used))) p
+    by : (x y : Option TouchFault) → first (option_map touch_flawed x ∷ (option_map touch_flawed y ∷ [])) ≡ option_map touch_flawed (first_of x y)
+    by None y = alone (option_map touch_flawed y)
+    by (Some e) y = refl
 
 -- none at the end changes nothing
-flaws_pad : (ts : List (Option Touch)) (k : ℕ) (used : List Bool) → touch_flaws (ts ++ replicate k None) used ≡ touch_flaws ts used
-flaws_pad [] zero used = refl
-flaws_pad [] (suc k) used = flaws_pad [] k used
-flaws_pad (None ∷ ts) k used = flaws_pad ts k used
-flaws_pad (Some t ∷ ts) k used = ap (λ (x : List (Option Flaw)). touch_flaw t used ∷ x) (flaws_pad ts k (touched t used))
-
-after_pad : (ts : List (Option Touch)) (k : ℕ) (used : List Bool) → after (ts ++ replicate k None) used ≡ after ts used
+after_pad : (ts : List (Option Touch)) (k : ℕ) (used : List Bool) → after_touches (ts ++ replicate k None) used ≡ after_touches ts used
 after_pad [] zero used = refl
 after_pad [] (suc k) used = after_pad [] k used
 after_pad (None ∷ ts) k used = after_pad ts k used
 after_pad (Some t ∷ ts) k used = after_pad ts k (touched t used)
 
-quad_is : (ts : List (Option Touch)) → length ts ≤ 4 → (k : ℕ) × (quad ts ≡ ts ++ replicate k None)
-quad_is [] l = (4, refl)
-quad_is (a ∷ []) l = (3, refl)
-quad_is (a ∷ (b ∷ [])) l = (2, refl)
-quad_is (a ∷ (b ∷ (c ∷ []))) l = (1, refl)
-quad_is (a ∷ (b ∷ (c ∷ (d ∷ [])))) l = (0, refl)
-quad_is (a ∷ (b ∷ (c ∷ (d ∷ (e ∷ ts))))) l = absurd (omega (arith, l))
+marks_pad : {M : Type 0} (f : M → Option Flaw) (ms : List M) (k : ℕ) → first (map (option_and_then f) (map Some ms ++ replicate k None)) ≡ first (map f ms)
+marks_pad f [] zero = refl
+marks_pad f [] (suc k) = marks_pad f [] k
+marks_pad f (m ∷ ms) k = first_more (f m) _ _ (marks_pad f ms k)
 
-pub quad_flaws : (ts : List (Option Touch)) (used : List Bool) → length ts ≤ 4 → touch_flaws (quad ts) used ≡ touch_flaws ts used
-quad_flaws ts used l = let q = quad_is ts l in ap (λ (x : List (Option Touch)). touch_flaws x used) q.1 ∙ flaws_pad ts q.0 used
+-- no record touches more than four roots, or names more than four
+few : (r : Rec) → (length (rec_touches r) ≤ 4) × (length (map Some (rec_marks r)) ≤ 4)
+few (plain (make d k s a b)) = (omega arith, omega arith)
+few (plain (copy s d)) = (omega arith, omega arith)
+few (plain (release r)) = (omega arith, omega arith)
+few (plain (rebuild r k s a b)) = (omega arith, omega arith)
+few (plain (put s v)) = (omega arith, omega arith)
+few (plain (sum t x y)) = (omega arith, omega arith)
+few (plain (difference t x y)) = (omega arith, omega arith)
+few (plain (look r s)) = (omega arith, omega arith)
+few (branch (match r k s a b) ya na) = (omega arith, omega arith)
+few (branch (test x y) ya na) = (omega arith, omega arith)
+few last = (omega arith, omega arith)
 
-pub quad_after : (ts : List (Option Touch)) (used : List Bool) → length ts ≤ 4 → after (quad ts) used ≡ after ts used
-quad_after ts used l = let q = quad_is ts l in ap (λ (x : List (Option Touch)). after x used) q.1 ∙ after_pad ts q.0 used
+module _ (r : Rec) where
+  quad_denied : (used : List Bool) → first_denied (quad (rec_touches r)) used ≡ first_denied (rec_touches r) used
+  quad_denied used = let q = quad_is (rec_touches r) (few r).0 in ap (λ (x : List (Option Touch)). first_denied x used) q.1 ∙ denied_pad (rec_touches r) q.0 used
 
--- five, one by one
-pub five : {X Y : Type 0} (f : X → Y) (xs : List X) (d : X) → length xs ≡ 5 → map f xs ≡ f (get_or xs 0 d) ∷ (f (get_or xs 1 d) ∷ (f (get_or xs 2 d) ∷ (f (get_or xs 3 d) ∷ (f (get_or xs 4 d) ∷ []))))
-five f [] d e = absurd (omega (arith, e))
-five f (a ∷ []) d e = absurd (omega (arith, e))
-five f (a ∷ (b ∷ [])) d e = absurd (omega (arith, e))
-five f (a ∷ (b ∷ (c ∷ []))) d e = absurd (omega (arith, e))
-five f (a ∷ (b ∷ (c ∷ (g ∷ [])))) d e = absurd (omega (arith, e))
-five f (a ∷ (b ∷ (c ∷ (g ∷ (h ∷ []))))) d e = refl
-five f (a ∷ (b ∷ (c ∷ (g ∷ (h ∷ (i ∷ xs)))))) d e = absurd (omega (arith, e))
+  pub quad_after : (used : List Bool) → after_touches (quad (rec_touches r)) used ≡ after_touches (rec_touches r) used
+  quad_after used = let q = quad_is (rec_touches r) (few r).0 in ap (λ (x : List (Option Touch)). after_touches x used) q.1 ∙ after_pad (rec_touches r) q.0 used
+
+  quad_marks : (f : Mark → Option Flaw) → first (map (option_and_then f) (quad (map Some (rec_marks r)))) ≡ first (map f (rec_marks r))
+  quad_marks f = let q = quad_is (map Some (rec_marks r)) (few r).1 in ap (λ (x : List (Option Mark)). first (map (option_and_then f) x)) q.1 ∙ marks_pad f (rec_marks r) q.0
 
 -- the tests of one record: fields, links, own, touches
-module _ (M : List (Option Flaw)) (l : Option Flaw) (O T : List (Option Flaw)) where
-  abbrev all : List (Option Flaw)
-  all = M ++ (l ∷ (O ++ T))
+module _ (r : Rec) (own used : List Bool) {ms : List (Option Mark)} (e : ms ≡ quad (map Some (rec_marks r))) where
+  abbrev M : List (Option Flaw)
+  M = map mark_flaw (rec_marks r)
 
-  pub at_fields : (f : Flaw) → first M ≡ Some f → first all ≡ Some f
-  at_fields f e = first_stop M (l ∷ (O ++ T)) f e
+  abbrev l : Option Flaw
+  l = unless (rec_links r) LinksUnfit
 
-  pub at_links : (f : Flaw) → first M ≡ None → l ≡ Some f → first all ≡ Some f
-  at_links f e p = first_on M (l ∷ (O ++ T)) e ∙ ap (λ (x : Option Flaw). first (x ∷ (O ++ T))) p
+  abbrev O : List (Option Flaw)
+  O = map (own_flaw own) (rec_marks r)
 
-  past_links : first M ≡ None → l ≡ None → first all ≡ first (O ++ T)
-  past_links e p = first_on M (l ∷ (O ++ T)) e ∙ ap (λ (x : Option Flaw). first (x ∷ (O ++ T))) p
+  abbrev T : List (Option Flaw)
+  T = touch_flaws (rec_touches r) used
 
-  pub at_own : (f : Flaw) → first M ≡ None → l ≡ None → first O ≡ Some f → first all ≡ Some f
-  at_own f e p q = past_links e p ∙ first_stop O T f q
+  -- what is tested of the four is tested of the record
+  of_four : (f : Mark → Option Flaw) → first (map f (rec_marks r)) ≡ first (map (option_and_then f) ms)
+  of_four f = sym (ap (λ (x : List (Option Mark)). first (map (option_and_then f) x)) e ∙ quad_marks r f)
 
-  pub at_touches : first M ≡ None → l ≡ None → first O ≡ None → first all ≡ first T
-  at_touches e p q = past_links e p ∙ first_on O T q
+  pub at_fields : {f : Flaw} → first (map (option_and_then mark_flaw) ms) ≡ Some f → first (rec_flaws own r used) ≡ Some f
+  at_fields p = first_stop M (l ∷ (O ++ T)) _ (of_four mark_flaw ∙ p)
 
--- no record touches more than four roots
-pub few_touches : (r : Rec) → length (rec_touches r) ≤ 4
-few_touches (plain (make d k s a b)) = omega arith
-few_touches (plain (copy s d)) = omega arith
-few_touches (plain (release r)) = omega arith
-few_touches (plain (rebuild r k s a b)) = omega arith
-few_touches (plain (put s v)) = omega arith
-few_touches (plain (sum t x y)) = omega arith
-few_touches (plain (difference t x y)) = omega arith
-few_touches (plain (look r s)) = omega arith
-few_touches (branch (match r k s a b) ya na) = omega arith
-few_touches (branch (test x y) ya na) = omega arith
-few_touches last = omega arith
+  module _ (m : first (map (option_and_then mark_flaw) ms) ≡ None) where
+    past_fields : first (rec_flaws own r used) ≡ first (l ∷ (O ++ T))
+    past_fields = first_on M (l ∷ (O ++ T)) (of_four mark_flaw ∙ m)
 
-pub five_same : {a b c d e p q r s t : Option Flaw} → a ≡ p → b ≡ q → c ≡ r → d ≡ s → e ≡ t → judged (first (a ∷ (b ∷ (c ∷ (d ∷ (e ∷ [])))))) ≡ judged (first (p ∷ (q ∷ (r ∷ (s ∷ (t ∷ []))))))
-five_same u v w x y = λ i. judged (first (u i ∷ (v i ∷ (w i ∷ (x i ∷ (y i ∷ []))))))
+    pub at_links : {f : Flaw} → l ≡ Some f → first (rec_flaws own r used) ≡ Some f
+    at_links p = past_fields ∙ ap (λ (x : Option Flaw). first (x ∷ (O ++ T))) p
+
+    module _ (n : l ≡ None) where
+      past_links : first (rec_flaws own r used) ≡ first (O ++ T)
+      past_links = past_fields ∙ ap (λ (x : Option Flaw). first (x ∷ (O ++ T))) n
+
+      pub at_own : {f : Flaw} → first (map (option_and_then (own_flaw own)) ms) ≡ Some f → first (rec_flaws own r used) ≡ Some f
+      at_own p = past_links ∙ first_stop O T _ (of_four (own_flaw own) ∙ p)
+
+      module _ (o : first (map (option_and_then (own_flaw own)) ms) ≡ None) {ts : List (Option Touch)} (t : ts ≡ quad (rec_touches r)) where
+        pub at_touches : {x : Option TouchFault} → first_denied ts used ≡ x → first (rec_flaws own r used) ≡ option_map touch_flawed x
+        at_touches p = past_links ∙ first_on O T (of_four (own_flaw own) ∙ o) ∙ denied_flaws (rec_touches r) used ∙ ap (option_map touch_flawed) (sym (quad_denied r used) ∙ ap (λ (x : List (Option Touch)). first_denied x used) (sym t) ∙ p)

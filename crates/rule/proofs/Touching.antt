@@ -1,5 +1,5 @@
 -- What a record that passed its tests asks of the machine: its call passes the machine's tests too, and only own roots change.
-use Rattle.std.proofs.Common.{◌≡◌, ℕ, zero, suc, ◌<◌, Bool, true, false, cond, eqb, ltb, List, [], ◌∷◌, ◌++◌, length, set, is_some, Some, None, Option, sym, refl, ap, ◌∙◌, subst, ⊎_elim, arith}
+use Rattle.std.proofs.Common.{◌≡◌, ℕ, zero, suc, ◌<◌, Bool, true, false, cond, eqb, ltb, List, [], ◌∷◌, ◌++◌, length, set, is_some, Some, None, Option, option_map, sym, refl, ap, ◌∙◌, subst, ⊎_elim, arith}
 use Rattle.std.proofs.lemmas.List.{length-set, get_or-set_other}
 use Rattle.std.proofs.lemmas.Bool.{both_ways, lt-ltb, eq-eqb, eqb-false, cond-true, cond-false}
 use Rattle.store.specs.Rooted.{root_at}
@@ -7,18 +7,18 @@ use Rattle.bench.specs.declared.call.Call.{Call}
 use Rattle.bench.specs.declared.call.Field.{Field}
 use Rattle.bench.specs.declared.call.Touch.{Touch}
 use Rattle.bench.specs.declared.call.Touch.TheVariants.{Use, Spend, Fill}
-use Rattle.bench.specs.declared.fault.BenchFault.{BenchFault}
+use Rattle.bench.specs.Faults.{touch_told}
 use Rattle.bench.specs.Machine.{spend, spent, filled}
 use Rattle.bench.specs.Step.{linked, link_roots}
-use Rattle.bench.specs.Tests.{fields, names_root, field_fault, fits_kind, kind_fault, link_fault, unless_none, touches, flags, in_use, touch_refused, first_of, touch_fault, fault_of}
+use Rattle.bench.specs.Tests.{fields, names_root, field_fault, fits_kind, link_fault, unless_none, touches, flags, in_use, touch_denied, first_of, first_denied, touch_fault, fault_of, after_touches}
 use Rattle.bench.specs.declared.call.Field.TheVariants as field
+use Rattle.bench.specs.declared.fault.BenchFault.TheVariants.{LinksUnfit}
 use Rattle.bench.proofs.Passes.{flags_set, spent_append}
 use Rattle.rule.specs.declared.mark.Mark.TheVariants.{Link}
-use Rattle.rule.specs.Check.{after}
 use Rattle.rule.specs.Allowed.{FitsMark, Moves}
 
 -- no fault before, and none here
-pub no_first : (f g : Option BenchFault) → f ≡ None → g ≡ None → first_of f g ≡ None
+pub no_first : {E : Type 0} (f g : Option E) → f ≡ None → g ≡ None → first_of f g ≡ None
 no_first None g e h = h
 no_first (Some x) g e h = e
 
@@ -28,7 +28,7 @@ no_fault call used e f g = no_first (field_fault (fields call)) _ e (no_first (l
 pub root_there : (r : ℕ) (fs : List Field) → r < 16 → field_fault fs ≡ None → field_fault (field.Root r ∷ fs) ≡ None
 root_there r fs l e = cond-true (ltb r 16) _ _ (lt-ltb r 16 l) ∙ e
 
-pub kind_fits : (k a b : ℕ) → fits_kind k a b ≡ true → kind_fault k a b ≡ None
+pub kind_fits : (k a b : ℕ) → fits_kind k a b ≡ true → cond (fits_kind k a b) None (Some LinksUnfit) ≡ None
 kind_fits k a b e = cond-true (fits_kind k a b) _ _ e
 
 set_same : (u v : List Bool) (r q : ℕ) (b : Bool) → length u ≡ length v → in_use u q ≡ in_use v q → in_use (set u r b) q ≡ in_use (set v r b) q
@@ -86,7 +86,7 @@ module _ (own : List Bool) where
   agree_set : (u v : List Bool) (r : ℕ) (b : Bool) → Agreeing u v → Agreeing (set u r b) (set v r b)
   agree_set u v r b g = record { long = length-set u r b ∙ g.long ∙ sym (length-set v r b); same = λ q o. set_same u v r q b g.long (g.same q o) }
 
-  pub agree_after : (ts : List (Option Touch)) (u v : List Bool) → Agreeing u v → Agreeing (after ts u) (after ts v)
+  pub agree_after : (ts : List (Option Touch)) (u v : List Bool) → Agreeing u v → Agreeing (after_touches ts u) (after_touches ts v)
   agree_after [] u v g = g
   agree_after (None ∷ ts) u v g = agree_after ts u v g
   agree_after (Some (Use r) ∷ ts) u v g = agree_after ts u v g
@@ -94,15 +94,18 @@ module _ (own : List Bool) where
   agree_after (Some (Fill r) ∷ ts) u v g = agree_after ts (set u r true) (set v r true) (agree_set u v r true g)
 
   -- what goes well with the roots v goes well with the roots u
+  none_denied : (ts : List (Option Touch)) (u v w : List Bool) → Owned ts → Agreeing u v → Moves ts v w → first_denied ts u ≡ None
+  none_denied [] u v w o g m = refl
+  none_denied (None ∷ ts) u v w o g m = none_denied ts u v w o g m
+  none_denied (Some (Use r) ∷ ts) u v w o g m =
+      no_first (touch_denied (Use r) u) _ (cond-true (in_use u r) _ _ (g.same r o.0 ∙ m.0)) (none_denied ts u v w o.1 g m.1)
+  none_denied (Some (Spend r) ∷ ts) u v w o g m =
+      no_first (touch_denied (Spend r) u) _ (cond-true (in_use u r) _ _ (g.same r o.0 ∙ m.0)) (none_denied ts (set u r false) (set v r false) w o.1 (agree_set u v r false g) m.1)
+  none_denied (Some (Fill r) ∷ ts) u v w o g m =
+      no_first (touch_denied (Fill r) u) _ (cond-false (in_use u r) _ _ (g.same r o.0 ∙ m.0)) (none_denied ts (set u r true) (set v r true) w o.1 (agree_set u v r true g) m.1)
+
   pub no_touch_fault : (ts : List (Option Touch)) (u v w : List Bool) → Owned ts → Agreeing u v → Moves ts v w → touch_fault ts u ≡ None
-  no_touch_fault [] u v w o g m = refl
-  no_touch_fault (None ∷ ts) u v w o g m = no_touch_fault ts u v w o g m
-  no_touch_fault (Some (Use r) ∷ ts) u v w o g m =
-      no_first (touch_refused (Use r) u) _ (cond-true (in_use u r) _ _ (g.same r o.0 ∙ m.0)) (no_touch_fault ts u v w o.1 g m.1)
-  no_touch_fault (Some (Spend r) ∷ ts) u v w o g m =
-      no_first (touch_refused (Spend r) u) _ (cond-true (in_use u r) _ _ (g.same r o.0 ∙ m.0)) (no_touch_fault ts (set u r false) (set v r false) w o.1 (agree_set u v r false g) m.1)
-  no_touch_fault (Some (Fill r) ∷ ts) u v w o g m =
-      no_first (touch_refused (Fill r) u) _ (cond-false (in_use u r) _ _ (g.same r o.0 ∙ m.0)) (no_touch_fault ts (set u r true) (set v r true) w o.1 (agree_set u v r true g) m.1)
+  no_touch_fault ts u v w o g m = ap (option_map touch_told) (none_denied ts u v w o g m)
 
   -- what is not owned is as before
   abbrev pub Others : List (Option ℕ) → List (Option ℕ) → Type 0
@@ -113,7 +116,7 @@ module _ (own : List Bool) where
 
   -- the roots after the touches
   pub record After (ts : List (Option Touch)) (old new : List (Option ℕ)) : Type 0 where
-    pub used : flags new ≡ after ts (flags old)
+    pub used : flags new ≡ after_touches ts (flags old)
     pub long : length new ≡ length old
     pub others : Others old new
 
@@ -129,14 +132,14 @@ module _ (own : List Bool) where
 
     pub spend_first : (r : ℕ) → in_use own r ≡ true → After ts (spend slots r) new → After (Some (Spend r) ∷ ts) slots new
     spend_first r h g = record {
-      used = g.used ∙ ap (after ts) (flags_set slots r None);
+      used = g.used ∙ ap (after_touches ts) (flags_set slots r None);
       long = g.long ∙ length-set slots r None;
       others = λ q k. g.others q k ∙ others_set slots r None h q k;
     }
 
     pub fill_first : (r : ℕ) (o : Option ℕ) → is_some o ≡ true → in_use own r ≡ true → After ts (set slots r o) new → After (Some (Fill r) ∷ ts) slots new
     fill_first r o e h g = record {
-      used = g.used ∙ ap (after ts) (flags_set slots r o ∙ ap (set (flags slots) r) e);
+      used = g.used ∙ ap (after_touches ts) (flags_set slots r o ∙ ap (set (flags slots) r) e);
       long = g.long ∙ length-set slots r o;
       others = λ q k. g.others q k ∙ others_set slots r o h q k;
     }

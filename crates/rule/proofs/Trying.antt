@@ -6,7 +6,8 @@ use Rattle.rule.specs.declared.fault.RuleFault.{RuleFault}
 use Rattle.rule.specs.declared.fault.RuleFault.TheVariants.{TooLong, Flawed}
 use Rattle.rule.specs.Sheet.{Head}
 use Rattle.rule.specs.Read.{Rec, plain, branch, last, record_at, head_at, Tree, step, fork, done, broken, closed, before_arms, grown, tree}
-use Rattle.rule.specs.Check.{Claims, marked, head_flaw, too_many, too_deep, record_flaws, step_marks, step_links, fork_marks, fork_links, after, step_touches, fork_touches, size, at_place, tests, first, verdict, by_head, faulted, answer}
+use Rattle.bench.specs.Tests.{after_touches, first}
+use Rattle.rule.specs.Check.{Claims, marked, head_flaw, too_many, too_deep, record_flaws, step_marks, step_links, fork_marks, fork_links, step_touches, fork_touches, size, at_place, tests, verdict, by_head, faulted, answer}
 use Rattle.rule.specs.Trials.{Trial, trials_in, by_head_trials, Rising, AllPass, FirstIn, FirstFailing, FirstFails}
 use Rattle.rule.proofs.Tested.{first_on}
 use Rattle.rule.proofs.Firsts.{placed_first}
@@ -23,10 +24,10 @@ flat_append (t ∷ xs) ys = ap (λ (l : List (Option Spot)). map (at_place t.pla
 
 flattened : (h : Claims) (t : Tree) (n d : ℕ) (u : List Bool) → tests h t n d u ≡ flat (trials_in h t n d u)
 unfolding tests trials_in
-flattened h (step p s k) n d u = ap (λ (l : List (Option Spot)). map (at_place p) (too_many n ∷ record_flaws h.own (step_marks s) (step_links s) (step_touches s) u) ++ l) (flattened h k (n + 1) d (after (step_touches s) u))
+flattened h (step p s k) n d u = ap (λ (l : List (Option Spot)). map (at_place p) (too_many n ∷ record_flaws h.own (step_marks s) (step_links s) (step_touches s) u) ++ l) (flattened h k (n + 1) d (after_touches (step_touches s) u))
 flattened h (fork p f a b) n d u = ap (λ (l : List (Option Spot)). map (at_place p) (too_many n ∷ (too_deep d ∷ record_flaws h.own (fork_marks f) (fork_links f) (fork_touches f) u)) ++ l)
-    ((λ i. flattened h a (n + 1) (d + 1) (after (fork_touches f) u) i ++ flattened h b (n + 1 + size a) (d + 1) u i)
-    ∙ sym (flat_append (trials_in h a (n + 1) (d + 1) (after (fork_touches f) u)) (trials_in h b (n + 1 + size a) (d + 1) u)))
+    ((λ i. flattened h a (n + 1) (d + 1) (after_touches (fork_touches f) u) i ++ flattened h b (n + 1 + size a) (d + 1) u i)
+    ∙ sym (flat_append (trials_in h a (n + 1) (d + 1) (after_touches (fork_touches f) u)) (trials_in h b (n + 1 + size a) (d + 1) u)))
 flattened h (done p) n d u = sym (append-nil _)
 flattened h (broken p e) n d u = sym (append-nil _)
 
@@ -126,21 +127,21 @@ module _ (h : Claims) where
   lies_by p xs ih (Ok (plain s, rest)) is = λ n d u.
       (let sh = (shorter xs (plain s) rest is).0 in
       let q = p + (length xs - length rest) in
-      let r = ih q rest sh (n + 1) d (after (step_touches s) u) in
-      (omega arith, between_low p q (p + length xs) (trials_in h (tree q rest) (n + 1) d (after (step_touches s) u)) (omega arith) (between_high q (q + length rest) (p + length xs) (trials_in h (tree q rest) (n + 1) d (after (step_touches s) u)) (omega (arith, sh)) r)))
+      let r = ih q rest sh (n + 1) d (after_touches (step_touches s) u) in
+      (omega arith, between_low p q (p + length xs) (trials_in h (tree q rest) (n + 1) d (after_touches (step_touches s) u)) (omega arith) (between_high q (q + length rest) (p + length xs) (trials_in h (tree q rest) (n + 1) d (after_touches (step_touches s) u)) (omega (arith, sh)) r)))
   lies_by p xs ih (Ok (branch f a b, rest)) is =
       let sh = (shorter xs (branch f a b) rest is).1 in
       let w = some_before f in
       let q = p + before_arms f in
       closed_lies h p (p + length xs) (fork p f (tree q a) (tree (q + length a) b)) rest (omega arith)
       (λ n d u.
-      (let x = trials_in h (tree q a) (n + 1) (d + 1) (after (fork_touches f) u) in
+      (let x = trials_in h (tree q a) (n + 1) (d + 1) (after_touches (fork_touches f) u) in
       let y = trials_in h (tree (q + length a) b) (n + 1 + size (tree q a)) (d + 1) u in
       let la : length a < length xs = omega (arith, sh, w) in
       let lb : length b < length xs = omega (arith, sh, w) in (
         omega arith,
         between_low p q (p + length xs) (x ++ y) (omega arith) (between_high q (q + length a + length b) (p + length xs) (x ++ y) (omega (arith, sh))
-            (between_append q (q + length a) (q + length a + length b) x y (ih q a la (n + 1) (d + 1) (after (fork_touches f) u)) (ih (q + length a) b lb (n + 1 + size (tree q a)) (d + 1) u))),
+            (between_append q (q + length a) (q + length a + length b) x y (ih q a la (n + 1) (d + 1) (after_touches (fork_touches f) u)) (ih (q + length a) b lb (n + 1 + size (tree q a)) (d + 1) u))),
       )))
   lies_by p xs ih (Ok (last, rest)) is = closed_lies h p (p + length xs) (done p) rest (omega arith) (λ n d u. (omega arith, omega arith))
 

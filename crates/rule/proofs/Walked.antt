@@ -6,7 +6,8 @@ use Rattle.rule.specs.declared.fault.Flaw.TheVariants.{TooMany, TooDeep}
 use Rattle.rule.specs.declared.fault.Spot.{Spot}
 use Rattle.rule.specs.Sheet.{Step, Fork}
 use Rattle.rule.specs.Read.{Tree, step, fork, done, broken}
-use Rattle.rule.specs.Check.{Claims, step_marks, step_links, step_touches, fork_marks, fork_links, fork_touches, after, record_flaws, done_flaw, size, too_many, too_deep, unless, at_place, tests, first, verdict, block_answer}
+use Rattle.bench.specs.Tests.{after_touches, first}
+use Rattle.rule.specs.Check.{Claims, step_marks, step_links, step_touches, fork_marks, fork_links, fork_touches, record_flaws, done_flaw, size, too_many, too_deep, unless, at_place, tests, verdict, block_answer}
 use Rattle.rule.proofs.Tested.{first_on, first_stop}
 use Rattle.rule.proofs.Firsts.{placed_first}
 
@@ -35,9 +36,9 @@ under n h = ap (λ b. unless b TooMany) (lt-ltb n 1024 h)
 module _ (h : Claims) where
   pub answer_many : (t : Tree) (n d : ℕ) (u : List Bool) → 1024 ≤ n → block_answer h t n d u ≡ Err (spot (place_of t) TooMany)
   unfolding tests
-  answer_many (step p s k) n d u l = ap (λ (o : Option Flaw). verdict (n + size (step p s k)) (first (at_place p o ∷ (map (at_place p) (record_flaws h.own (step_marks s) (step_links s) (step_touches s) u) ++ tests h k (n + 1) d (after (step_touches s) u))))) (over n l)
+  answer_many (step p s k) n d u l = ap (λ (o : Option Flaw). verdict (n + size (step p s k)) (first (at_place p o ∷ (map (at_place p) (record_flaws h.own (step_marks s) (step_links s) (step_touches s) u) ++ tests h k (n + 1) d (after_touches (step_touches s) u))))) (over n l)
   answer_many (fork p f a b) n d u l = ap (λ (o : Option Flaw). verdict (n + size (fork p f a b)) (first (at_place p o ∷ (map (at_place p) (too_deep d ∷ record_flaws h.own (fork_marks f) (fork_links f) (fork_touches f) u)
-      ++ (tests h a (n + 1) (d + 1) (after (fork_touches f) u) ++ tests h b (n + 1 + size a) (d + 1) u))))) (over n l)
+      ++ (tests h a (n + 1) (d + 1) (after_touches (fork_touches f) u) ++ tests h b (n + 1 + size a) (d + 1) u))))) (over n l)
   answer_many (done p) n d u l = ap (λ (o : Option Flaw). verdict (n + size (done p)) (first (at_place p o ∷ map (at_place p) (done_flaw h.out u ∷ [])))) (over n l)
   answer_many (broken p e) n d u l = ap (λ (o : Option Flaw). verdict (n + size (broken p e)) (first (at_place p o ∷ map (at_place p) (Some e ∷ [])))) (over n l)
 
@@ -59,25 +60,25 @@ module _ (h : Claims) where
       own : List (Option Flaw)
       own = record_flaws h.own (step_marks s) (step_links s) (step_touches s) u
 
-      here : block_answer h (step p s k) n d u ≡ verdict (n + size (step p s k)) (first (map (at_place p) own ++ tests h k (n + 1) d (after (step_touches s) u)))
+      here : block_answer h (step p s k) n d u ≡ verdict (n + size (step p s k)) (first (map (at_place p) own ++ tests h k (n + 1) d (after_touches (step_touches s) u)))
       unfolding tests own
-      here = ap (λ (o : Option Flaw). verdict (n + size (step p s k)) (first (at_place p o ∷ (map (at_place p) own ++ tests h k (n + 1) d (after (step_touches s) u))))) (under n l)
+      here = ap (λ (o : Option Flaw). verdict (n + size (step p s k)) (first (at_place p o ∷ (map (at_place p) own ++ tests h k (n + 1) d (after_touches (step_touches s) u))))) (under n l)
 
       pub answer_flaw : (f : Flaw) → first (record_flaws h.own (step_marks s) (step_links s) (step_touches s) u) ≡ Some f → block_answer h (step p s k) n d u ≡ Err (spot p f)
       unfolding own
-      answer_flaw f e = here ∙ ap (verdict (n + size (step p s k))) (first_stop (map (at_place p) own) (tests h k (n + 1) d (after (step_touches s) u)) (spot p f) (placed_some p own f e))
+      answer_flaw f e = here ∙ ap (verdict (n + size (step p s k))) (first_stop (map (at_place p) own) (tests h k (n + 1) d (after_touches (step_touches s) u)) (spot p f) (placed_some p own f e))
 
-      pub answer_step : first (record_flaws h.own (step_marks s) (step_links s) (step_touches s) u) ≡ None → block_answer h (step p s k) n d u ≡ block_answer h k (n + 1) d (after (step_touches s) u)
+      pub answer_step : first (record_flaws h.own (step_marks s) (step_links s) (step_touches s) u) ≡ None → block_answer h (step p s k) n d u ≡ block_answer h k (n + 1) d (after_touches (step_touches s) u)
       unfolding own size
-      answer_step e = here ∙ ap (verdict (n + size (step p s k))) (first_on (map (at_place p) own) (tests h k (n + 1) d (after (step_touches s) u)) (placed_first p own e))
-          ∙ (let z : n + suc (size k) ≡ n + 1 + size k = omega arith in ap (λ m. verdict m (first (tests h k (n + 1) d (after (step_touches s) u)))) z)
+      answer_step e = here ∙ ap (verdict (n + size (step p s k))) (first_on (map (at_place p) own) (tests h k (n + 1) d (after_touches (step_touches s) u)) (placed_first p own e))
+          ∙ (let z : n + suc (size k) ≡ n + 1 + size k = omega arith in ap (λ m. verdict m (first (tests h k (n + 1) d (after_touches (step_touches s) u)))) z)
 
     module _ (p : ℕ) (f : Fork) (a b : Tree) where
       forks : List (Option Flaw)
       forks = record_flaws h.own (fork_marks f) (fork_links f) (fork_touches f) u
 
       arms : List (Option Spot)
-      arms = tests h a (n + 1) (d + 1) (after (fork_touches f) u) ++ tests h b (n + 1 + size a) (d + 1) u
+      arms = tests h a (n + 1) (d + 1) (after_touches (fork_touches f) u) ++ tests h b (n + 1 + size a) (d + 1) u
 
       fork_here : block_answer h (fork p f a b) n d u ≡ verdict (n + size (fork p f a b)) (first (at_place p (too_deep d) ∷ (map (at_place p) forks ++ arms)))
       unfolding tests forks arms
@@ -100,20 +101,20 @@ module _ (h : Claims) where
           fork_arms = fork_on ∙ ap (verdict (n + size (fork p f a b))) (first_on (map (at_place p) forks) arms (placed_first p forks q))
 
           -- the yes arm is refused
-          pub fork_yes : (x : Spot) → block_answer h a (n + 1) (d + 1) (after (fork_touches f) u) ≡ Err x → block_answer h (fork p f a b) n d u ≡ Err x
+          pub fork_yes : (x : Spot) → block_answer h a (n + 1) (d + 1) (after_touches (fork_touches f) u) ≡ Err x → block_answer h (fork p f a b) n d u ≡ Err x
           unfolding arms
-          fork_yes x e = fork_arms ∙ ap (verdict (n + size (fork p f a b))) (first_stop (tests h a (n + 1) (d + 1) (after (fork_touches f) u)) (tests h b (n + 1 + size a) (d + 1) u) x (was_err (n + 1 + size a) _ x e))
+          fork_yes x e = fork_arms ∙ ap (verdict (n + size (fork p f a b))) (first_stop (tests h a (n + 1) (d + 1) (after_touches (fork_touches f) u)) (tests h b (n + 1 + size a) (d + 1) u) x (was_err (n + 1 + size a) _ x e))
             where
               was_err : (m : ℕ) (o : Option Spot) (x : Spot) → verdict m o ≡ Err x → o ≡ Some x
               was_err m None x e = cc
               was_err m (Some y) x e = cc
 
           -- it is passed, and the no arm decides
-          pub fork_no : (m : ℕ) → block_answer h a (n + 1) (d + 1) (after (fork_touches f) u) ≡ Ok m → block_answer h (fork p f a b) n d u ≡ block_answer h b m (d + 1) u
+          pub fork_no : (m : ℕ) → block_answer h a (n + 1) (d + 1) (after_touches (fork_touches f) u) ≡ Ok m → block_answer h (fork p f a b) n d u ≡ block_answer h b m (d + 1) u
           unfolding arms size
           fork_no m e =
-              let o = was_ok (n + 1 + size a) (first (tests h a (n + 1) (d + 1) (after (fork_touches f) u))) m e in
-              fork_arms ∙ ap (verdict (n + size (fork p f a b))) (first_on (tests h a (n + 1) (d + 1) (after (fork_touches f) u)) (tests h b (n + 1 + size a) (d + 1) u) o.0)
+              let o = was_ok (n + 1 + size a) (first (tests h a (n + 1) (d + 1) (after_touches (fork_touches f) u))) m e in
+              fork_arms ∙ ap (verdict (n + size (fork p f a b))) (first_on (tests h a (n + 1) (d + 1) (after_touches (fork_touches f) u)) (tests h b (n + 1 + size a) (d + 1) u) o.0)
               ∙ (let z : n + suc (size a + size b) ≡ n + 1 + size a + size b = omega arith in ap (λ j. verdict j (first (tests h b (n + 1 + size a) (d + 1) u))) z)
               ∙ ap (λ j. block_answer h b j (d + 1) u) o.1
             where

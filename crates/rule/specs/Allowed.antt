@@ -5,7 +5,7 @@ use Rattle.bench.specs.declared.call.Touch.{Touch}
 use Rattle.bench.specs.declared.call.Touch.TheVariants.{Use, Spend, Fill}
 use Rattle.bench.specs.Tests.{in_use}
 use Rattle.rule.specs.declared.mark.Mark.{Mark}
-use Rattle.rule.specs.declared.mark.Mark.TheVariants.{Root, Link, Slot, Free}
+use Rattle.rule.specs.declared.mark.Mark.TheVariants.{Root, Link, Slot}
 use Rattle.rule.specs.Sheet.{Head, Step, make, copy, release, rebuild, put, sum, difference, look, Block, step, fork, done, rule_bytes, records}
 use Rattle.rule.specs.Check.{marked, step_marks, fork_marks, step_links, fork_links, step_touches, fork_touches, answer}
 
@@ -14,7 +14,6 @@ abbrev pub FitsMark : List Bool → Mark → Type 0
 FitsMark own (Root r) = (r < 16) × (in_use own r ≡ true)
 FitsMark own (Link r) = ((r < 16) × (in_use own r ≡ true)) ⊎ (r ≡ 255)
 FitsMark own (Slot s) = s < 8
-FitsMark own Free = Unit {0}
 
 abbrev pub FitAll : List Bool → List Mark → Type 0
 FitAll own [] = Unit {0}

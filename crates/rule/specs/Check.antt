@@ -1,11 +1,13 @@
 -- The check: the tests of a rule, in the order of the sheet. It answers the first that fails, or how many records there are.
-use Rattle.std.specs.Prelude.{ℕ, zero, suc, ◌+◌, ◌/◌, ◌%◌, Bool, true, false, cond, not, ◌||◌, List, [], ◌∷◌, ◌++◌, map, length, pos, Some, None, Ok, Err, Option, Result, ◌==◌, nat_lt}
+use Rattle.std.specs.Prelude.{ℕ, zero, suc, ◌+◌, ◌/◌, ◌%◌, Bool, true, false, cond, ◌||◌, List, [], ◌∷◌, ◌++◌, map, length, pos, Some, None, Ok, Err, Option, option_map, Result, ◌==◌, nat_lt}
 use Rattle.bench.specs.declared.call.Call.TheVariants.{Make, Copy, Release, Match, Rebuild, Look}
 use Rattle.bench.specs.declared.call.Touch.{Touch}
-use Rattle.bench.specs.declared.call.Touch.TheVariants.{Use, Spend, Fill}
-use Rattle.bench.specs.Tests.{fits_kind, in_use, touched, touches}
+use Rattle.bench.specs.declared.fault.NoSuchRoot as absent
+use Rattle.bench.specs.declared.fault.TouchFault.{TouchFault}
+use Rattle.bench.specs.declared.fault.TouchFault.TheVariants.{Empty, InUse}
+use Rattle.bench.specs.Tests.{fits_kind, in_use, touch_denied, touched, after_touches, touches, first}
 use Rattle.rule.specs.declared.mark.Mark.{Mark}
-use Rattle.rule.specs.declared.mark.Mark.TheVariants.{Root, Link, Slot, Free}
+use Rattle.rule.specs.declared.mark.Mark.TheVariants.{Root, Link, Slot}
 use Rattle.rule.specs.declared.fault.Flaw.{Flaw}
 use Rattle.rule.specs.declared.fault.Flaw.TheVariants.{TooMany, TooDeep, NoSuchRoot, NoSuchSlot, LinksUnfit, NotOwned, RootEmpty, RootInUse, NotAsDeclared}
 use Rattle.rule.specs.declared.fault.Spot.{Spot}
@@ -38,23 +40,20 @@ either [] ys = []
 either (x ∷ xs) [] = x ∷ xs
 either (x ∷ xs) (y ∷ ys) = (x || y) ∷ either xs ys
 
--- the five fields of a record in their order; a record has no more
-abbrev pub none_more : List Mark
-none_more = Free ∷ (Free ∷ (Free ∷ []))
-
+-- the roots, links and slots that a record names, from left to right
 abbrev pub step_marks : Step → List Mark
-step_marks (make d k s a b) = Root d ∷ (Free ∷ (Slot s ∷ (Link a ∷ (Link b ∷ []))))
-step_marks (copy s d) = Root s ∷ (Root d ∷ none_more)
-step_marks (release r) = Root r ∷ (Free ∷ none_more)
-step_marks (rebuild r k s a b) = Root r ∷ (Free ∷ (Slot s ∷ (Link a ∷ (Link b ∷ []))))
-step_marks (put s v) = Slot s ∷ (Free ∷ none_more)
-step_marks (sum t x y) = Slot t ∷ (Slot x ∷ (Slot y ∷ (Free ∷ (Free ∷ []))))
-step_marks (difference t x y) = Slot t ∷ (Slot x ∷ (Slot y ∷ (Free ∷ (Free ∷ []))))
-step_marks (look r s) = Root r ∷ (Slot s ∷ none_more)
+step_marks (make d k s a b) = Root d ∷ (Slot s ∷ (Link a ∷ (Link b ∷ [])))
+step_marks (copy s d) = Root s ∷ (Root d ∷ [])
+step_marks (release r) = Root r ∷ []
+step_marks (rebuild r k s a b) = Root r ∷ (Slot s ∷ (Link a ∷ (Link b ∷ [])))
+step_marks (put s v) = Slot s ∷ []
+step_marks (sum t x y) = Slot t ∷ (Slot x ∷ (Slot y ∷ []))
+step_marks (difference t x y) = Slot t ∷ (Slot x ∷ (Slot y ∷ []))
+step_marks (look r s) = Root r ∷ (Slot s ∷ [])
 
 abbrev pub fork_marks : Fork → List Mark
-fork_marks (match r k s a b) = Root r ∷ (Free ∷ (Slot s ∷ (Link a ∷ (Link b ∷ []))))
-fork_marks (test x y) = Slot x ∷ (Slot y ∷ none_more)
+fork_marks (match r k s a b) = Root r ∷ (Slot s ∷ (Link a ∷ (Link b ∷ [])))
+fork_marks (test x y) = Slot x ∷ (Slot y ∷ [])
 
 -- whether the roots for links fit the kind
 abbrev pub step_links : Step → Bool
@@ -87,12 +86,6 @@ abbrev pub fork_touches : Fork → List (Option Touch)
 fork_touches (match r k s a b) = touches (Match r k a b)
 fork_touches (test x y) = []
 
--- which roots are in use after it
-abbrev pub after : List (Option Touch) → List Bool → List Bool
-after [] used = used
-after (None ∷ ts) used = after ts used
-after (Some t ∷ ts) used = after ts (touched t used)
-
 -- a test that is passed, or else the flaw
 abbrev pub unless : Bool → Flaw → Option Flaw
 unless true e = None
@@ -103,20 +96,25 @@ abbrev pub mark_flaw : Mark → Option Flaw
 mark_flaw (Root r) = unless (nat_lt r 16) (NoSuchRoot r)
 mark_flaw (Link r) = unless (nat_lt r 16 || r == 255) (NoSuchRoot r)
 mark_flaw (Slot s) = unless (nat_lt s 8) NoSuchSlot
-mark_flaw Free = None
 
 -- and roots that the rule owns
 abbrev pub own_flaw : List Bool → Mark → Option Flaw
 own_flaw own (Root r) = unless (in_use own r) (NotOwned r)
 own_flaw own (Link r) = unless (in_use own r || r == 255) (NotOwned r)
 own_flaw own (Slot s) = None
-own_flaw own Free = None
+
+-- a field that names no root, as a flaw of the record
+abbrev pub field_flawed : absent.NoSuchRoot → Flaw
+field_flawed e = NoSuchRoot e.0
+
+-- a root that is refused, as a flaw of the record
+abbrev pub touch_flawed : TouchFault → Flaw
+touch_flawed (Empty r) = RootEmpty r
+touch_flawed (InUse r) = RootInUse r
 
 -- in the order of spending and filling: in use where it is used, empty where it is filled
 abbrev pub touch_flaw : Touch → List Bool → Option Flaw
-touch_flaw (Use r) used = unless (in_use used r) (RootEmpty r)
-touch_flaw (Spend r) used = unless (in_use used r) (RootEmpty r)
-touch_flaw (Fill r) used = unless (not (in_use used r)) (RootInUse r)
+touch_flaw t used = option_map touch_flawed (touch_denied t used)
 
 abbrev pub touch_flaws : List (Option Touch) → List Bool → List (Option Flaw)
 touch_flaws [] used = []
@@ -166,17 +164,11 @@ pub record Claims : Type 0 where
 
 -- the tests of a block, record by record as they stand, the yes arm before the no arm. A path comes in with the roots in use
 unfoldable pub tests : Claims → Tree → ℕ → ℕ → List Bool → List (Option Spot)
-tests h (step p s k) n d used = map (at_place p) (too_many n ∷ record_flaws h.own (step_marks s) (step_links s) (step_touches s) used) ++ tests h k (n + 1) d (after (step_touches s) used)
+tests h (step p s k) n d used = map (at_place p) (too_many n ∷ record_flaws h.own (step_marks s) (step_links s) (step_touches s) used) ++ tests h k (n + 1) d (after_touches (step_touches s) used)
 tests h (fork p f ya na) n d used = map (at_place p) (too_many n ∷ (too_deep d ∷ record_flaws h.own (fork_marks f) (fork_links f) (fork_touches f) used))
-    ++ (tests h ya (n + 1) (d + 1) (after (fork_touches f) used) ++ tests h na (n + 1 + size ya) (d + 1) used)
+    ++ (tests h ya (n + 1) (d + 1) (after_touches (fork_touches f) used) ++ tests h na (n + 1 + size ya) (d + 1) used)
 tests h (done p) n d used = map (at_place p) (too_many n ∷ (done_flaw h.out used ∷ []))
 tests h (broken p e) n d used = map (at_place p) (too_many n ∷ (Some e ∷ []))
-
--- the first that fails
-abbrev pub first : {A : Type 0} → List (Option A) → Option A
-first [] = None
-first (None ∷ xs) = first xs
-first (Some e ∷ xs) = Some e
 
 -- the number of records, or the flaw
 abbrev pub verdict : ℕ → Option Spot → Result ℕ Spot

@@ -1,5 +1,6 @@
 pub mod Reports
 pub mod Sheet
+pub mod Kinds
 pub mod Read
 pub mod Check
 pub mod Allowed

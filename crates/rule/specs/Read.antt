@@ -1,5 +1,5 @@
 -- How a rule's bytes are read: record by record into a tree, in which what cannot be read is a leaf with its flaw.
-use Rattle.std.specs.Prelude.{ℕ, zero, suc, ◌+◌, ◌-◌, ◌*◌, cond, ◌&&◌, ◌||◌, List, [], ◌∷◌, length, take, drop, Ok, Err, Result, ◌==◌, nat_le, nat_lt, slice_index}
+use Rattle.std.specs.Prelude.{ℕ, zero, suc, ◌+◌, ◌-◌, ◌*◌, Bool, true, false, cond, ◌&&◌, ◌||◌, List, [], ◌∷◌, length, take, drop, Ok, Err, Result, ◌==◌, nat_le, nat_lt, slice_index}
 use Rattle.std.proofs.Common.{to_z}
 use Rattle.std.specs.Int.{w32}
 use Rattle.rule.specs.declared.fault.Flaw.{Flaw}
@@ -11,6 +11,12 @@ pub data Rec : Type 0 where
   plain : Step → Rec
   branch : Fork → List ℕ → List ℕ → Rec
   last : Rec
+
+-- whether it closes its block
+abbrev pub closes : Rec → Bool
+closes (plain s) = false
+closes (branch f ya na) = true
+closes last = true
 
 abbrev pub le16 : List ℕ → ℕ → ℕ
 le16 xs i = slice_index xs i + slice_index xs (i + 1) * 256
@@ -33,8 +39,15 @@ abbrev pub sized : ℕ → List ℕ → Rec → Result Rec Flaw
 sized n body r = cond (length body == n) (Ok r) (Err Length)
 
 -- the yes arm has n bytes and the no arm the rest, each at least 4
+abbrev pub arms : ℕ → List ℕ → Result (List ℕ × List ℕ) Flaw
+arms n xs = cond (nat_le 4 n && nat_le (n + 4) (length xs)) (Ok (take n xs, drop n xs)) (Err Length)
+
+abbrev pub branched : Fork → Result (List ℕ × List ℕ) Flaw → Result Rec Flaw
+branched f (Ok p) = Ok (branch f p.0 p.1)
+branched f (Err e) = Err e
+
 abbrev pub armed : Fork → ℕ → List ℕ → Result Rec Flaw
-armed f n arms = cond (nat_le 4 n && nat_le (n + 4) (length arms)) (Ok (branch f (take n arms) (drop n arms))) (Err Length)
+armed f n xs = branched f (arms n xs)
 
 abbrev pub fields : ℕ → List ℕ → Result Rec Flaw
 fields k b =

@@ -24,6 +24,10 @@ shown (Match r k s a b ya na) = branch (match r k s a b) ya.now na.now
 shown (Test x y ya na) = branch (test x y) ya.now na.now
 shown Done = last
 
+abbrev pub shown_arms : Result (Bor (List ℕ) × Bor (List ℕ)) Flaw → Result (List ℕ × List ℕ) Flaw
+shown_arms (Ok p) = Ok (p.0.now, p.1.now)
+shown_arms (Err e) = Err e
+
 abbrev pub shown_fields : Result Record Flaw → Result Rec Flaw
 shown_fields (Ok r) = Ok (shown r)
 shown_fields (Err e) = Err e

@@ -5,7 +5,8 @@ use Rattle.rule.specs.declared.fault.Spot.{Spot}
 use Rattle.rule.specs.declared.fault.RuleFault.TheVariants.{Flawed}
 use Rattle.rule.specs.Sheet.{Head}
 use Rattle.rule.specs.Read.{head_at, Tree, step, fork, done, broken, tree}
-use Rattle.rule.specs.Check.{Claims, marked, step_marks, step_links, step_touches, fork_marks, fork_links, fork_touches, after, record_flaws, head_flaw, done_flaw, size, too_many, too_deep, first, answer}
+use Rattle.bench.specs.Tests.{after_touches, first}
+use Rattle.rule.specs.Check.{Claims, marked, step_marks, step_links, step_touches, fork_marks, fork_links, fork_touches, record_flaws, head_flaw, done_flaw, size, too_many, too_deep, answer}
 
 -- the record that begins at a place, and how its tests end, in their order
 pub record Trial : Type 0 where
@@ -13,9 +14,9 @@ pub record Trial : Type 0 where
   pub outcomes : List (Option Flaw)
 
 unfoldable pub trials_in : Claims → Tree → ℕ → ℕ → List Bool → List Trial
-trials_in h (step p s k) n d used = record { place = p; outcomes = too_many n ∷ record_flaws h.own (step_marks s) (step_links s) (step_touches s) used } ∷ trials_in h k (n + 1) d (after (step_touches s) used)
+trials_in h (step p s k) n d used = record { place = p; outcomes = too_many n ∷ record_flaws h.own (step_marks s) (step_links s) (step_touches s) used } ∷ trials_in h k (n + 1) d (after_touches (step_touches s) used)
 trials_in h (fork p f ya na) n d used = record { place = p; outcomes = too_many n ∷ (too_deep d ∷ record_flaws h.own (fork_marks f) (fork_links f) (fork_touches f) used) }
-    ∷ (trials_in h ya (n + 1) (d + 1) (after (fork_touches f) used) ++ trials_in h na (n + 1 + size ya) (d + 1) used)
+    ∷ (trials_in h ya (n + 1) (d + 1) (after_touches (fork_touches f) used) ++ trials_in h na (n + 1 + size ya) (d + 1) used)
 trials_in h (done p) n d used = record { place = p; outcomes = too_many n ∷ (done_flaw h.out used ∷ []) } ∷ []
 trials_in h (broken p e) n d used = record { place = p; outcomes = too_many n ∷ (Some e ∷ []) } ∷ []
 

@@ -25,108 +25,95 @@ pub struct Claims {
     pub out: [bool; 16],
 }
 
-fn refuse(place: u16, flaw: Flaw) -> Result<u16, Spot>
-    ensures { result ≡ Err (record { place = place; flaw = flaw }) }
-{
-    Err(Spot { place, flaw })
-}
-
-// Checks a block that begins at a place, behind so many records and inside so many matches and tests, on a path that
-// comes with the used roots. Answers how many records there are up to its end.
-#[cycle(check_block_check_fork)]
-fn check_block(
-    claims: &Claims,
-    bytes: &[u8],
+// Where the check stands: at a place of the rule, behind so many records, inside so many matches and tests, on a path
+// that comes with the used roots.
+#[derive(Clone, Copy)]
+struct Path {
     place: u16,
     seen: u16,
     depth: u8,
     used: [bool; 16],
-) -> Result<u16, Spot>
-    requires small { place + length bytes.now ≤ 4096 }
-    requires few { seen ≤ 1024 }
-    requires shallow { depth ≤ 16 }
-    ensures told { result ≡ block_answer (claims_of claims.now) (tree place bytes.now) seen depth used }
+}
+
+// The arms of a match or test, and how many bytes of it stand before them.
+#[derive(Clone, Copy)]
+struct Arms<'a> {
+    before: u16,
+    yes: &'a [u8],
+    no: &'a [u8],
+}
+
+// Checks a block on a path. Answers how many records there are up to its end.
+#[cycle(check_block_check_fork)]
+fn check_block(claims: &Claims, bytes: &[u8], path: Path) -> Result<u16, Spot>
+    requires small { path.place + length bytes.now ≤ 4096 }
+    requires few { path.seen ≤ 1024 }
+    requires shallow { path.depth ≤ 16 }
+    ensures told { result ≡ block_answer (claims_of claims.now) (tree path.place bytes.now) path.seen path.depth path.used }
     ensures few { IfOk result (λ n. n ≤ 1024) }
 {
     let mut rest = bytes;
-    let mut at = place;
-    let mut seen = seen;
-    let mut used = used;
+    let mut path = path;
     'records: loop {
-        if seen >= MOST_RECORDS {
-            return refuse(at, Flaw::TooMany);
+        if path.seen >= MOST_RECORDS {
+            return Err(Flaw::TooMany.at(path.place));
         }
-        let (rec, after) = match read_record(rest) {
-            Ok(read) => read,
-            Err(flaw) => return refuse(at, flaw),
-        };
+        let (rec, after) = read_record(rest).map_err(|flaw| flaw.at(path.place))?;
+        if rec.closes() && !after.is_empty() {
+            return Err(Flaw::Trailing.at(path.place));
+        }
         match rec {
             Record::Match { yes, no, .. } => {
-                if !after.is_empty() {
-                    return refuse(at, Flaw::Trailing);
-                }
-                return check_fork(claims, &rec, yes, no, at, 11, seen, depth, used);
+                let before = 11;
+                return check_fork(claims, &rec, Arms { before, yes, no }, path);
             }
             Record::Test { yes, no, .. } => {
-                if !after.is_empty() {
-                    return refuse(at, Flaw::Trailing);
-                }
-                return check_fork(claims, &rec, yes, no, at, 8, seen, depth, used);
+                let before = 8;
+                return check_fork(claims, &rec, Arms { before, yes, no }, path);
             }
             Record::Done => {
-                if !after.is_empty() {
-                    return refuse(at, Flaw::Trailing);
-                }
-                return match lowest_differing(&used, &claims.out) {
-                    Some(r) => refuse(at, Flaw::NotAsDeclared(r)),
-                    None => Ok(seen + 1),
+                return match lowest_differing(&path.used, &claims.out) {
+                    Some(r) => Err(Flaw::NotAsDeclared(r).at(path.place)),
+                    None => Ok(path.seen + 1),
                 };
             }
             _ => {
-                match test_record(&claims.own, &rec, &mut used) {
-                    Ok(()) => {}
-                    Err(flaw) => return refuse(at, flaw),
-                }
-                at += (rest.len() - after.len()) as u16;
-                seen += 1;
+                test_record(&claims.own, &rec, &mut path.used).map_err(|flaw| flaw.at(path.place))?;
+                path.place += (rest.len() - after.len()) as u16;
+                path.seen += 1;
                 rest = after;
             }
         }
     }
 }
 
-// Checks a match or test at a place, whose arms stand `before` bytes behind it: its own tests, then the yes arm, then
-// the no arm.
+// Checks a match or test on a path: its own tests, then the yes arm, then the no arm.
 #[cycle(check_block_check_fork)]
-fn check_fork(
-    claims: &Claims,
-    rec: &Record<'_>,
-    yes: &[u8],
-    no: &[u8],
-    place: u16,
-    before: u16,
-    seen: u16,
-    depth: u8,
-    used: [bool; 16],
-) -> Result<u16, Spot>
-    requires small { place + before + length yes.now + length no.now ≤ 4096 }
-    requires few { seen + 1 ≤ 1024 }
-    requires shallow { depth ≤ 16 }
-    ensures told { (f : Fork) → shown rec.now ≡ branch f yes.now no.now → before ≡ before_arms f → result ≡ block_answer (claims_of claims.now) (fork place f (tree (place + before_arms f) yes.now) (tree (place + before_arms f + length yes.now) no.now)) seen depth used }
+fn check_fork(claims: &Claims, rec: &Record<'_>, arms: Arms<'_>, path: Path) -> Result<u16, Spot>
+    requires small { path.place + arms.before + length arms.yes.now + length arms.no.now ≤ 4096 }
+    requires few { path.seen + 1 ≤ 1024 }
+    requires shallow { path.depth ≤ 16 }
+    ensures told { (f : Fork) → shown rec.now ≡ branch f arms.entry.yes.now arms.entry.no.now → arms.entry.before ≡ before_arms f → result ≡ block_answer (claims_of claims.now) (fork path.place f (tree (path.place + before_arms f) arms.entry.yes.now) (tree (path.place + before_arms f + length arms.entry.yes.now) arms.entry.no.now)) path.seen path.depth path.used }
     ensures few { IfOk result (λ n. n ≤ 1024) }
 {
-    if depth >= DEEPEST {
-        return refuse(place, Flaw::TooDeep);
+    if path.depth >= DEEPEST {
+        return Err(Flaw::TooDeep.at(path.place));
     }
-    let mut taken = used;
-    match test_record(&claims.own, rec, &mut taken) {
-        Ok(()) => {}
-        Err(flaw) => return refuse(place, flaw),
-    }
-    let at = place + before;
-    let n = check_block(claims, yes, at, seen + 1, depth + 1, taken)?;
-    let m = check_block(claims, no, at + yes.len() as u16, n, depth + 1, used)?;
-    Ok(m)
+    let mut yes = Path {
+        place: path.place + arms.before,
+        seen: path.seen + 1,
+        depth: path.depth + 1,
+        ..path
+    };
+    test_record(&claims.own, rec, &mut yes.used).map_err(|flaw| flaw.at(path.place))?;
+    let seen = check_block(claims, arms.yes, yes)?;
+    let no = Path {
+        place: yes.place + arms.yes.len() as u16,
+        seen,
+        depth: yes.depth,
+        ..path
+    };
+    check_block(claims, arms.no, no)
 }
 
 // Tests a head, then the block behind it.
@@ -138,8 +125,16 @@ fn check_headed(head: &Head, rest: &[u8]) -> Result<u16, Spot>
     let out = marked(head.leave);
     let used = marked(head.enter);
     match lowest_differing(&either(&either(&used, &out), &own), &own) {
-        Some(r) => refuse(0, Flaw::NotOwned(r)),
-        None => check_block(&Claims { own, out }, rest, 10, 1, 0, used),
+        Some(r) => Err(Flaw::NotOwned(r).at(0)),
+        None => {
+            let path = Path {
+                place: 10,
+                seen: 1,
+                depth: 0,
+                used,
+            };
+            check_block(&Claims { own, out }, rest, path)
+        }
     }
 }
 
@@ -151,10 +146,6 @@ pub fn check(bytes: &[u8]) -> Result<u16, RuleFault>
     if bytes.len() > MOST_BYTES {
         return Err(RuleFault::TooLong);
     }
-    let (head, rest) = match read_head(bytes) {
-        Ok(read) => read,
-        Err(flaw) => return Err(RuleFault::Flawed(Spot { place: 0, flaw })),
-    };
-    let n = check_headed(&head, rest)?;
-    Ok(n)
+    let (head, rest) = read_head(bytes).map_err(|flaw| flaw.at(0))?;
+    Ok(check_headed(&head, rest)?)
 }

@@ -1,7 +1,11 @@
 ghost use Rattle.std.specs.Prelude.{◌≡◌};
+ghost use Rattle.rule.specs.Check.{field_flawed, touch_flawed};
 ghost use Rattle.rule.specs.Reports.{flaw_report, rule_report};
 ghost use Rattle.rule.specs.declared.fault.RuleFault.TheVariants.{Flawed};
 
+use bench::fault::{NoSuchRoot, TouchFault};
+use std::error::Error;
+use std::fmt;
 use store::fault::Report;
 
 // What is wrong with a record, in the order in which a record is tested.
@@ -36,29 +40,28 @@ pub enum Flaw {
 }
 
 impl Flaw {
-    pub fn report(&self, place: u16) -> Report
-        ensures { result ≡ flaw_report self.now place }
+    pub fn at(self, place: u16) -> Spot
+        ensures { result ≡ record { place = place; flaw = self } }
     {
-        let (number, root) = match self {
-            Flaw::TooMany => (5, 255),
-            Flaw::Cut => (6, 255),
-            Flaw::Kind => (7, 255),
-            Flaw::Length => (8, 255),
-            Flaw::Trailing => (9, 255),
-            Flaw::TooDeep => (10, 255),
-            Flaw::NoSuchRoot(r) => (2, *r),
-            Flaw::NoSuchSlot => (11, 255),
-            Flaw::LinksUnfit => (3, 255),
-            Flaw::NotOwned(r) => (12, *r),
-            Flaw::RootEmpty(r) => (13, *r),
-            Flaw::RootInUse(r) => (14, *r),
-            Flaw::NotAsDeclared(r) => (15, *r),
-        };
-        Report {
-            number,
-            layer: 3,
-            root,
-            place,
+        Spot { place, flaw: self }
+    }
+}
+
+impl From<NoSuchRoot> for Flaw {
+    ghost from_gives = { λ e r. r ≡ field_flawed e };
+
+    fn from(e: NoSuchRoot) -> Flaw {
+        Flaw::NoSuchRoot(e.0)
+    }
+}
+
+impl From<TouchFault> for Flaw {
+    ghost from_gives = { λ e r. r ≡ touch_flawed e };
+
+    fn from(e: TouchFault) -> Flaw {
+        match e {
+            TouchFault::Empty(r) => Flaw::RootEmpty(r),
+            TouchFault::InUse(r) => Flaw::RootInUse(r),
         }
     }
 }
@@ -78,22 +81,6 @@ pub enum RuleFault {
     Flawed(Spot),
 }
 
-impl RuleFault {
-    pub fn report(&self) -> Report
-        ensures { result ≡ rule_report self.now }
-    {
-        match self {
-            RuleFault::TooLong => Report {
-                number: 4,
-                layer: 3,
-                root: 255,
-                place: 0,
-            },
-            RuleFault::Flawed(spot) => spot.flaw.report(spot.place),
-        }
-    }
-}
-
 impl From<Spot> for RuleFault {
     ghost from_gives = { λ e r. r ≡ Flawed e };
 
@@ -101,3 +88,55 @@ impl From<Spot> for RuleFault {
         RuleFault::Flawed(e)
     }
 }
+
+impl From<Spot> for Report {
+    ghost from_gives = { λ e r. r ≡ flaw_report e.flaw e.place };
+
+    fn from(e: Spot) -> Report {
+        let (number, root) = match e.flaw {
+            Flaw::TooMany => (5, 255),
+            Flaw::Cut => (6, 255),
+            Flaw::Kind => (7, 255),
+            Flaw::Length => (8, 255),
+            Flaw::Trailing => (9, 255),
+            Flaw::TooDeep => (10, 255),
+            Flaw::NoSuchRoot(r) => (2, r),
+            Flaw::NoSuchSlot => (11, 255),
+            Flaw::LinksUnfit => (3, 255),
+            Flaw::NotOwned(r) => (12, r),
+            Flaw::RootEmpty(r) => (13, r),
+            Flaw::RootInUse(r) => (14, r),
+            Flaw::NotAsDeclared(r) => (15, r),
+        };
+        Report {
+            number,
+            layer: 3,
+            root,
+            place: e.place,
+        }
+    }
+}
+
+impl From<RuleFault> for Report {
+    ghost from_gives = { λ e r. r ≡ rule_report e };
+
+    fn from(e: RuleFault) -> Report {
+        match e {
+            RuleFault::TooLong => Report {
+                number: 4,
+                layer: 3,
+                root: 255,
+                place: 0,
+            },
+            RuleFault::Flawed(spot) => Report::from(spot),
+        }
+    }
+}
+
+impl fmt::Display for RuleFault {
+    fn fmt<W: fmt::Write>(&self, f: &mut fmt::Formatter<W>) -> fmt::Result {
+        Report::from(*self).fmt(f)
+    }
+}
+
+impl Error for RuleFault {}

@@ -1,5 +1,5 @@
-// One field of a record, as it is tested.
-#[derive(Clone, Copy)]
+// A field of a record that is tested.
+#[derive(Clone, Copy, PartialEq, Eq, Debug)]
 pub enum Mark {
     // must name a root
     Root(u8),
@@ -7,6 +7,4 @@ pub enum Mark {
     Link(u8),
     // must name a slot
     Slot(u8),
-    // any byte will do, or there is no such field
-    Free,
 }

@@ -1,8 +1,11 @@
 ghost use Rattle.std.specs.Prelude.{◌≡◌};
-ghost use Rattle.rule.specs.Read.{front, fields, head_fields, record_at, head_at};
-ghost use Rattle.rule.specs.Shown.{shown_front, shown_fields, shown_record_at, shown_head, shown_head_at};
+ghost use Rattle.rule.specs.Kinds.{kind_number, Reads};
+ghost use Rattle.rule.specs.Read.{closes, front, arms, fields, head_fields, record_at, head_at};
+ghost use Rattle.rule.specs.Judged.{rec_call};
+ghost use Rattle.rule.specs.Shown.{shown, shown_front, shown_arms, shown_fields, shown_record_at, shown_head, shown_head_at};
 
 use crate::fault::Flaw;
+use bench::call::Call;
 
 // The head of a rule: the roots in use when it begins, when it ends, and the roots that it may touch; bit r for root r.
 #[derive(Clone, Copy, PartialEq, Eq, Debug)]
@@ -72,6 +75,90 @@ pub enum Record<'a> {
     Done,
 }
 
+// What a record is, by the number that it opens with.
+#[derive(Clone, Copy, PartialEq, Eq, Debug)]
+pub enum Kind {
+    Head,
+    Make,
+    Copy,
+    Release,
+    Rebuild,
+    Set,
+    Sum,
+    Difference,
+    Look,
+    Match,
+    Test,
+    Done,
+}
+
+impl TryFrom<u16> for Kind {
+    type Error = Flaw;
+
+    ghost try_from_gives = { λ n r. Reads n r };
+
+    fn try_from(number: u16) -> Result<Kind, Flaw> {
+        match number {
+            1 => Ok(Kind::Head),
+            2 => Ok(Kind::Make),
+            3 => Ok(Kind::Copy),
+            4 => Ok(Kind::Release),
+            5 => Ok(Kind::Rebuild),
+            6 => Ok(Kind::Set),
+            7 => Ok(Kind::Sum),
+            8 => Ok(Kind::Difference),
+            9 => Ok(Kind::Look),
+            10 => Ok(Kind::Match),
+            11 => Ok(Kind::Test),
+            12 => Ok(Kind::Done),
+            _ => Err(Flaw::Kind),
+        }
+    }
+}
+
+impl Record<'_> {
+    // Nothing follows it in its block.
+    pub fn closes(&self) -> bool
+        ensures { result ≡ closes (shown self.now) }
+    {
+        matches!(
+            self,
+            Record::Match { .. } | Record::Test { .. } | Record::Done
+        )
+    }
+
+    // The call that it makes, if it makes one; a new cell takes the value.
+    pub fn call(&self, value: i32) -> Option<Call>
+        ensures { result ≡ rec_call (shown self.now) value }
+    {
+        match *self {
+            Record::Make { d, kind, a, b, .. } => Some(Call::Make {
+                d,
+                kind,
+                value,
+                a,
+                b,
+            }),
+            Record::Copy { s, d } => Some(Call::Copy { s, d }),
+            Record::Release { r } => Some(Call::Release { r }),
+            Record::Rebuild { r, kind, a, b, .. } => Some(Call::Rebuild {
+                r,
+                kind,
+                value,
+                a,
+                b,
+            }),
+            Record::Look { r, .. } => Some(Call::Look { r }),
+            Record::Match { r, kind, a, b, .. } => Some(Call::Match { r, kind, a, b }),
+            Record::Set { .. }
+            | Record::Sum { .. }
+            | Record::Difference { .. }
+            | Record::Test { .. }
+            | Record::Done => None,
+        }
+    }
+}
+
 // How a record opens: its kind, the bytes of its fields, and the bytes after it.
 #[derive(Clone, Copy)]
 pub struct Front<'a> {
@@ -98,74 +185,46 @@ fn open(bytes: &[u8]) -> Result<Front<'_>, Flaw>
     })
 }
 
-fn fields(kind: u16, body: &[u8]) -> Result<Record<'_>, Flaw>
-    ensures { shown_fields result ≡ fields kind body.now }
+// The yes arm, of so many bytes, and the no arm, of the rest; neither has under 4.
+fn arms(length: u16, bytes: &[u8]) -> Result<(&[u8], &[u8]), Flaw>
+    ensures { shown_arms result ≡ arms length bytes.now }
 {
-    match kind {
-        2 => match body {
-            [d, kind, slot, a, b] => Ok(Record::Make {
-                d: *d,
-                kind: *kind,
-                slot: *slot,
-                a: *a,
-                b: *b,
-            }),
-            _ => Err(Flaw::Length),
-        },
-        3 => match body {
-            [s, d] => Ok(Record::Copy { s: *s, d: *d }),
-            _ => Err(Flaw::Length),
-        },
-        4 => match body {
-            [r] => Ok(Record::Release { r: *r }),
-            _ => Err(Flaw::Length),
-        },
-        5 => match body {
-            [r, kind, slot, a, b] => Ok(Record::Rebuild {
-                r: *r,
-                kind: *kind,
-                slot: *slot,
-                a: *a,
-                b: *b,
-            }),
-            _ => Err(Flaw::Length),
-        },
-        6 => match body {
-            [slot, v0, v1, v2, v3] => Ok(Record::Set {
-                slot: *slot,
-                value: i32::from_le_bytes([*v0, *v1, *v2, *v3]),
-            }),
-            _ => Err(Flaw::Length),
-        },
-        7 => match body {
-            [to, x, y] => Ok(Record::Sum {
-                to: *to,
-                x: *x,
-                y: *y,
-            }),
-            _ => Err(Flaw::Length),
-        },
-        8 => match body {
-            [to, x, y] => Ok(Record::Difference {
-                to: *to,
-                x: *x,
-                y: *y,
-            }),
-            _ => Err(Flaw::Length),
-        },
-        9 => match body {
-            [r, slot] => Ok(Record::Look { r: *r, slot: *slot }),
-            _ => Err(Flaw::Length),
-        },
-        10 => {
-            let [r, kind, slot, a, b, n0, n1, arms @ ..] = body else {
-                return Err(Flaw::Length);
-            };
-            let n = usize::from(u16::from_le_bytes([*n0, *n1]));
-            if n < 4 || arms.len() < n + 4 {
-                return Err(Flaw::Length);
-            }
-            let (yes, no) = arms.split_at(n);
+    let n = usize::from(length);
+    if n < 4 || bytes.len() < n + 4 {
+        return Err(Flaw::Length);
+    }
+    Ok(bytes.split_at(n))
+}
+
+fn fields(kind: Kind, body: &[u8]) -> Result<Record<'_>, Flaw>
+    ensures { shown_fields result ≡ fields (kind_number kind) body.now }
+{
+    match (kind, body) {
+        (Kind::Make, &[d, kind, slot, a, b]) => Ok(Record::Make {
+            d,
+            kind,
+            slot,
+            a,
+            b,
+        }),
+        (Kind::Copy, &[s, d]) => Ok(Record::Copy { s, d }),
+        (Kind::Release, &[r]) => Ok(Record::Release { r }),
+        (Kind::Rebuild, &[r, kind, slot, a, b]) => Ok(Record::Rebuild {
+            r,
+            kind,
+            slot,
+            a,
+            b,
+        }),
+        (Kind::Set, &[slot, v0, v1, v2, v3]) => Ok(Record::Set {
+            slot,
+            value: i32::from_le_bytes([v0, v1, v2, v3]),
+        }),
+        (Kind::Sum, &[to, x, y]) => Ok(Record::Sum { to, x, y }),
+        (Kind::Difference, &[to, x, y]) => Ok(Record::Difference { to, x, y }),
+        (Kind::Look, &[r, slot]) => Ok(Record::Look { r, slot }),
+        (Kind::Match, [r, kind, slot, a, b, n0, n1, rest @ ..]) => {
+            let (yes, no) = arms(u16::from_le_bytes([*n0, *n1]), rest)?;
             Ok(Record::Match {
                 r: *r,
                 kind: *kind,
@@ -176,15 +235,8 @@ fn fields(kind: u16, body: &[u8]) -> Result<Record<'_>, Flaw>
                 no,
             })
         }
-        11 => {
-            let [x, y, n0, n1, arms @ ..] = body else {
-                return Err(Flaw::Length);
-            };
-            let n = usize::from(u16::from_le_bytes([*n0, *n1]));
-            if n < 4 || arms.len() < n + 4 {
-                return Err(Flaw::Length);
-            }
-            let (yes, no) = arms.split_at(n);
+        (Kind::Test, [x, y, n0, n1, rest @ ..]) => {
+            let (yes, no) = arms(u16::from_le_bytes([*n0, *n1]), rest)?;
             Ok(Record::Test {
                 x: *x,
                 y: *y,
@@ -192,11 +244,9 @@ fn fields(kind: u16, body: &[u8]) -> Result<Record<'_>, Flaw>
                 no,
             })
         }
-        12 => match body {
-            [] => Ok(Record::Done),
-            _ => Err(Flaw::Length),
-        },
-        _ => Err(Flaw::Kind),
+        (Kind::Done, []) => Ok(Record::Done),
+        (Kind::Head, _) => Err(Flaw::Kind),
+        _ => Err(Flaw::Length),
     }
 }
 
@@ -205,13 +255,13 @@ pub fn read_record(bytes: &[u8]) -> Result<(Record<'_>, &[u8]), Flaw>
     ensures { shown_record_at result ≡ record_at bytes.now }
 {
     let Front { kind, body, rest } = open(bytes)?;
-    Ok((fields(kind, body)?, rest))
+    Ok((fields(Kind::try_from(kind)?, body)?, rest))
 }
 
-fn head_fields(kind: u16, body: &[u8]) -> Result<Head, Flaw>
-    ensures { shown_head result ≡ head_fields kind body.now }
+fn head_fields(kind: Kind, body: &[u8]) -> Result<Head, Flaw>
+    ensures { shown_head result ≡ head_fields (kind_number kind) body.now }
 {
-    if kind != 1 {
+    if kind != Kind::Head {
         return Err(Flaw::Kind);
     }
     let [i0, i1, o0, o1, w0, w1] = body else {
@@ -229,5 +279,5 @@ pub fn read_head(bytes: &[u8]) -> Result<(Head, &[u8]), Flaw>
     ensures { shown_head_at result ≡ head_at bytes.now }
 {
     let Front { kind, body, rest } = open(bytes)?;
-    Ok((head_fields(kind, body)?, rest))
+    Ok((head_fields(Kind::try_from(kind)?, body)?, rest))
 }

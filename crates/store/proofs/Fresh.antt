@@ -6,7 +6,7 @@ use Rattle.store.specs.Numbers.{times}
 use Rattle.store.specs.Meaning.{Out}
 use Rattle.store.specs.Cells.{empty, at, links_of, inlinks, meaning}
 use Rattle.store.specs.Setup.{fresh_cell, fresh_from, fresh}
-use Rattle.store.specs.Sound.{Sound, Chain, Okay, Clean}
+use Rattle.store.specs.Sound.{Sound, Chain, Okay, Tidy}
 use Rattle.store.specs.NumbersLemmas.{hit_cases, hit_other}
 use Rattle.store.specs.CellsLemmas.{at_past, inlinks_from}
 
@@ -100,6 +100,6 @@ module _ (n : ℕ) (some : 0 < n) (most : n ≤ 4096) where
   unfolding cells
   fresh_out d = omega (arith, count_none d)
 
-  pub fresh_clean : Clean (fresh n).cells
+  pub fresh_tidy : (tidy : Cell → Cell) → ((count : ℕ) (next : Option ℕ) → tidy (empty count next) ≡ empty count next) → Tidy tidy (fresh n).cells
   unfolding cells
-  fresh_clean d z = rw (blank d).1 (record { kind = refl; value = refl; link0 = refl; link1 = refl; count = refl })
+  fresh_tidy tidy bare d = rw (blank d).1 (bare 0 (blank d).0)

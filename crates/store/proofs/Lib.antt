@@ -6,5 +6,4 @@ pub mod Steps
 pub mod Meets
 pub mod Fresh
 pub mod After
-pub mod Few
 pub mod Told

@@ -1,23 +1,22 @@
 -- A store that stands on the table of counted cells answers as the interface asks.
-use Rattle.std.proofs.Common.{◌≡◌, ℕ, ◌+◌, ◌<◌, false, eqb, List, length, ℤ, is_some, None, Ok, Err, Option, Result, sym, refl, ap, ◌∙◌, subst, ⊎_elim, arith}
+use Rattle.std.proofs.Common.{◌≡◌, ℕ, ◌<◌, ◌≤◌, false, eqb, List, length, ℤ, is_some, None, Ok, Err, Option, Result, sym, refl, ap, ◌∙◌, subst, ⊎_elim, arith}
 use Rattle.std.proofs.lemmas.Bool.{eq-eqb, ne_eqb, cond-true, cond-false, leb-false, lt-leb}
 use Rattle.store.specs.declared.cell.Cell.{Cell}
 use Rattle.store.specs.declared.hold.Hold.{Hold}
 use Rattle.store.specs.declared.hold.Links.{Links}
 use Rattle.store.specs.declared.fault.Refused.{Refused}
 use Rattle.store.specs.declared.fault.RefusedRebuild.{RefusedRebuild}
-use Rattle.store.specs.Meaning.{Node, arity, Meaning, Reached, less, Moved, Unchanged, Made, Full, Spare, most_links, Asked, making, rebuilding}
+use Rattle.store.specs.Meaning.{Node, arity, Meaning, Reached, less, Moved, Unchanged, Made, Full, Spare, Asked, making, rebuilding}
 use Rattle.store.specs.Cells.{links_of, holds, meaning}
-use Rattle.store.specs.Heap.{Heap, cell, made_in, rewritten, made_beside, rebuilt, deferred, settled, after}
+use Rattle.store.specs.Heap.{Heap, cell, made_in, rewritten, made_beside, rebuilt, after}
 use Rattle.store.specs.Interface.{on, spent, Fits, asked_for, Handed, MakeTold, RebuildTold}
 use Rattle.store.specs.Answers.{MakeAnswer, RebuildAnswer}
-use Rattle.store.specs.Sound.{Fitting, Okay, Lawful, Changed}
-use Rattle.store.specs.Stores.{DeferringDid, EagerOkay, EagerDid}
+use Rattle.store.specs.Sound.{Fitting, Okay, Lawful}
+use Rattle.store.specs.Setup.{fresh}
+use Rattle.store.specs.Stores.{Keeping, Telling}
 use Rattle.store.specs.NumbersLemmas.{item_first, item_second}
-use Rattle.store.specs.Sinks.{defers}
-use Rattle.store.specs.Pile.{eagers}
-use Rattle.store.proofs.After.{Askable, after_okay, after_clean}
-use Rattle.store.proofs.Few.{after_few}
+use Rattle.store.proofs.After.{Askable, after_okay, after_tidy}
+use Rattle.store.proofs.Fresh.{fresh_okay, fresh_tidy}
 use Rattle.store.proofs.Reach.{still_reached}
 use Rattle.store.proofs.Meets.{make_made, rewrite_made, beside_made, make_full, rebuild_full, fits_length}
 
@@ -77,18 +76,20 @@ module _ (lower : Heap → ℕ → Heap) (law : Lawful lower) (h k : Heap) (o : 
 pub moved_at : (h : Heap) {k l : Heap} (spends gives : List ℕ) → k ≡ l → Moved (meaning h.cells) (meaning l.cells) spends gives → Moved (meaning h.cells) (meaning k.cells) spends gives
 moved_at h spends gives e r = subst (λ (x : Heap). Moved (meaning h.cells) (meaning x.cells) spends gives) (sym e) r
 
-module _ {h k : Heap} where
-  pub deferring_ok : (q : Asked) → Okay h → Askable h q → k ≡ after deferred h q → Okay k
-  deferring_ok q o a e = subst (λ (x : Heap). Okay x) (sym e) (after_okay deferred defers h o q a)
+module _ (lower : Heap → ℕ → Heap) (law : Lawful lower) (okay : Heap → Type 0) (tidy : Cell → Cell) (keeps : Keeping lower okay tidy) where
+  -- what a store keeps of its table holds after any call
+  pub kept_after : {h k : Heap} (q : Asked) → okay h → Askable h q → k ≡ after lower h q → okay k
+  kept_after {h} q o a e =
+      let r = (keeps.reads h).0 o in
+      subst okay (sym e) ((keeps.reads (after lower h q)).1 (after_okay lower law h r.0 q a, after_tidy lower law okay tidy keeps h r.0 r.1 q a))
 
-  pub deferring_did : (q : Asked) → k ≡ after deferred h q → DeferringDid h q k
-  deferring_did q e = record { table = e; few = subst (λ (x : Heap). Changed (most_links + 2) h.cells x.cells) (sym e) (after_few h q) }
+  -- and of a fresh table
+  pub kept_fresh : {k : Heap} (n : ℕ) → 0 < n → n ≤ 4096 → k ≡ fresh n → okay k
+  kept_fresh n some most e = subst okay (sym e) ((keeps.reads (fresh n)).1 (fresh_okay n some most, fresh_tidy n some most tidy keeps.blank))
 
-  pub eager_ok : (q : Asked) → EagerOkay h → Askable h q → k ≡ after settled h q → EagerOkay k
-  eager_ok q o a e = subst (λ (x : Heap). EagerOkay x) (sym e) (record { okay = after_okay settled eagers h o.okay q a; clean = after_clean h o.okay o.clean q a })
-
-  pub eager_did : (q : Asked) → k ≡ after settled h q → EagerDid h q k
-  eager_did q e = record { table = e }
+-- what a store tells of a change, where the table is what the call makes of it
+pub told_after : (lower : Heap → ℕ → Heap) {okay : Heap → Type 0} {did : Heap → Asked → Heap → Type 0} {shows : Heap → Heap → Type 0} → Telling lower okay did shows → (h : Heap) {k : Heap} (q : Asked) → k ≡ after lower h q → did h q k
+told_after lower {did = did} tells h q e = subst (did h q) (sym e) (tells.told h q)
 
 -- link 1 is there only beside link 0
 pub fitting_order : {kind : ℕ} {a b : Option ℕ} → Fitting kind a b → is_some a ≡ false → is_some b ≡ false

@@ -16,3 +16,5 @@ pub mod NumbersLemmas
 pub mod CellsLemmas
 pub mod Writes
 pub mod Pile
+pub mod Few
+pub mod Ways

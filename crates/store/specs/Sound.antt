@@ -1,9 +1,9 @@
 -- What holds of our two stores' tables.
-use Rattle.std.specs.Prelude.{◌≡◌, ℕ, ◌+◌, ◌<◌, ◌≤◌, List, [], ◌∷◌, ◌++◌, length, pos, is_some, Some, None, Option, nat_le}
+use Rattle.std.specs.Prelude.{◌≡◌, ℕ, ◌+◌, ◌<◌, ◌≤◌, cond, List, [], ◌∷◌, ◌++◌, length, pos, is_some, Some, None, Option, ◌==◌, nat_le}
 use Rattle.store.specs.declared.cell.Cell.{Cell}
 use Rattle.store.specs.Numbers.{times, In}
 use Rattle.store.specs.Meaning.{arity}
-use Rattle.store.specs.Cells.{at, links_of, node_of, inlinks, holds}
+use Rattle.store.specs.Cells.{empty, at, links_of, node_of, inlinks, holds}
 use Rattle.store.specs.Heap.{Heap}
 
 -- a link is there exactly where the kind has it
@@ -57,6 +57,14 @@ pub record Wiped (x : Cell) : Type 0 where
 -- the eager store's law: of count 0 is wiped
 abbrev pub Clean : List Cell → Type 0
 Clean cells = (c : ℕ) → (at cells c).count ≡ 0 → Wiped (at cells c)
+
+-- a cell as the eager store leaves it: of count 0 it is wiped
+abbrev pub reclaimed : Cell → Cell
+reclaimed x = cond (x.count == 0) (empty 0 x.next) x
+
+-- each cell is as a way to lower cells leaves it
+abbrev pub Tidy : (Cell → Cell) → List Cell → Type 0
+Tidy tidy cells = (c : ℕ) → tidy (at cells c) ≡ at cells c
 
 -- the holds of the list are ended; nothing else is lost
 pub record Lowered (cells new : List Cell) (ended : List ℕ) : Type 0 where

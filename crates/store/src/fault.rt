@@ -3,6 +3,8 @@ ghost use Rattle.store.specs.Reports.{setup_report, store_report};
 
 use crate::cell::Cell;
 use crate::hold::{Hold, Links};
+use std::error::Error;
+use std::fmt;
 
 // A refusal in four parts. Layers: 1 store, 2 bench, 3 rule. Root 255 and place 65,535 stand for none.
 #[derive(Clone, Copy, PartialEq, Eq, Debug)]
@@ -13,6 +15,18 @@ pub struct Report {
     pub place: u16,
 }
 
+impl fmt::Display for Report {
+    fn fmt<W: fmt::Write>(&self, f: &mut fmt::Formatter<W>) -> fmt::Result {
+        let Report {
+            number,
+            layer,
+            root,
+            place,
+        } = *self;
+        write!(f, "fault {number} layer {layer} root {root} place {place}")
+    }
+}
+
 // Why a table cannot be set up.
 #[derive(Clone, Copy, PartialEq, Eq, Debug)]
 pub enum SetupFault {
@@ -20,11 +34,11 @@ pub enum SetupFault {
     TableSize,
 }
 
-impl SetupFault {
-    pub fn report(&self) -> Report
-        ensures { result ≡ setup_report self.now }
-    {
-        match self {
+impl From<SetupFault> for Report {
+    ghost from_gives = { λ e r. r ≡ setup_report e };
+
+    fn from(e: SetupFault) -> Report {
+        match e {
             SetupFault::TableSize => Report {
                 number: 1,
                 layer: 2,
@@ -35,6 +49,16 @@ impl SetupFault {
     }
 }
 
+impl fmt::Display for SetupFault {
+    fn fmt<W: fmt::Write>(&self, f: &mut fmt::Formatter<W>) -> fmt::Result {
+        match self {
+            SetupFault::TableSize => f.write_str("the table has no cell or too many"),
+        }
+    }
+}
+
+impl Error for SetupFault {}
+
 // Why a store refuses a make or a rebuild.
 #[derive(Clone, Copy, PartialEq, Eq, Debug)]
 pub enum StoreFault {
@@ -42,11 +66,11 @@ pub enum StoreFault {
     NoCell,
 }
 
-impl StoreFault {
-    pub fn report(&self) -> Report
-        ensures { result ≡ store_report self.now }
-    {
-        match self {
+impl From<StoreFault> for Report {
+    ghost from_gives = { λ e r. r ≡ store_report e };
+
+    fn from(e: StoreFault) -> Report {
+        match e {
             StoreFault::NoCell => Report {
                 number: 22,
                 layer: 1,
@@ -56,6 +80,16 @@ impl StoreFault {
         }
     }
 }
+
+impl fmt::Display for StoreFault {
+    fn fmt<W: fmt::Write>(&self, f: &mut fmt::Formatter<W>) -> fmt::Result {
+        match self {
+            StoreFault::NoCell => f.write_str("want of a cell"),
+        }
+    }
+}
+
+impl Error for StoreFault {}
 
 // A table that was refused is handed back as it came.
 #[derive(Drop)]

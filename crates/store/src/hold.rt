@@ -1,4 +1,5 @@
 ghost use Rattle.std.specs.Prelude.{◌≡◌, Some, None};
+ghost use Rattle.store.specs.Interface.{on};
 
 // One reference to a cell, in hand. It is linear: a hold is spent by release, make, part or rebuild, or set in a root.
 // It cannot be let go, and none can be made from a number.
@@ -13,6 +14,13 @@ impl Hold {
     {
         self.cell
     }
+}
+
+// The hold that an optional number stands for, where a link or a root gives it up.
+pub(crate) fn given_up(number: Option<u16>) -> Option<Hold>
+    ensures { on result ≡ number }
+{
+    number.map(|cell| Hold { cell })
 }
 
 // A hold for each link that a cell has.

@@ -1,14 +1,14 @@
 ghost use Rattle.std.specs.Prelude.{◌≡◌, ℕ, ◌<◌, [], ◌∷◌, ◌==◌};
 ghost use Rattle.store.specs.Numbers.{item};
 ghost use Rattle.store.specs.Meaning.{Meaning, Reached, Moved, Few, Spare, less, Asked, making, copying, releasing, parting, rebuilding};
-ghost use Rattle.store.specs.Interface.{Fits, asked_for, spent, Handed, MakeTold, RebuildTold};
+ghost use Rattle.store.specs.Interface.{asked_for, spent, Handed, MakeTold, RebuildTold};
 
+use crate::content::Content;
 use crate::fault::{Refused, RefusedRebuild};
 use crate::hold::{Hold, Links};
 
 // A store means two things: how many holds are out on each cell, and what each cell that is reached from a hold holds.
-// It is asked only with holds that are out, about cells that are reached, with a hold for each link of a new cell,
-// and while at most 1,000 holds are out.
+// It is asked only with holds that are out, about cells that are reached, and while at most 1,000 holds are out.
 pub trait Store {
     // the store's own invariant
     ghost ok: { Self → Type 0 };
@@ -47,13 +47,12 @@ pub trait Store {
         ensures { result ≡ (a.now.cell == b.now.cell) };
 
     // A cell that was not reached, with a hold on it; refused where every cell is reached.
-    fn make(&mut self, kind: u8, value: i32, links: Links) -> Result<Hold, Refused>
+    fn make(&mut self, content: Content) -> Result<Hold, Refused>
         requires ok { ok self.old }
         requires few { Few (means self.old) }
-        requires fits { Fits kind links }
-        requires spare { Spare (means self.old) (spent links) }
+        requires spare { Spare (means self.old) (spent content.links) }
         ensures ok { ok self.new }
-        ensures told { MakeTold (means self.old) (means self.new) kind value links (did self.old (making (asked_for kind value links)) self.new) (kept self.old self.new) result };
+        ensures told { MakeTold (means self.old) (means self.new) content.kind content.value content.links (did self.old (making (asked_for content.kind content.value content.links)) self.new) (kept self.old self.new) result };
 
     fn copy(&mut self, h: &Hold) -> Hold
         requires ok { ok self.old }
@@ -83,18 +82,11 @@ pub trait Store {
         ensures did { did self.old (parting h.cell) self.new };
 
     // A cell with the new content: one that was not reached, or only through the hold that is spent.
-    fn rebuild(
-        &mut self,
-        old: Hold,
-        kind: u8,
-        value: i32,
-        links: Links,
-    ) -> Result<Hold, RefusedRebuild>
+    fn rebuild(&mut self, old: Hold, content: Content) -> Result<Hold, RefusedRebuild>
         requires ok { ok self.old }
         requires few { Few (means self.old) }
         requires held { 0 < (means self.old).holds old.cell }
-        requires fits { Fits kind links }
-        requires spare { Spare (less (means self.old) old.cell) (spent links) }
+        requires spare { Spare (less (means self.old) old.cell) (spent content.links) }
         ensures ok { ok self.new }
-        ensures told { RebuildTold (means self.old) (means self.new) old kind value links (did self.old (rebuilding old.cell (asked_for kind value links)) self.new) (kept self.old self.new) result };
+        ensures told { RebuildTold (means self.old) (means self.new) old content.kind content.value content.links (did self.old (rebuilding old.cell (asked_for content.kind content.value content.links)) self.new) (kept self.old self.new) result };
 }

@@ -3,13 +3,13 @@
 
 pub mod calls;
 pub mod cell;
-pub mod deferring;
-pub mod eager;
+pub mod content;
 pub mod fault;
 pub mod hold;
 pub mod interface;
 pub mod laws;
 pub mod lowering;
 pub mod roots;
+pub mod stores;
 pub mod table;
 pub mod tally;

@@ -1,11 +1,15 @@
 ghost use Rattle.std.specs.Prelude.{◌≡◌, ℕ, ◌<◌, ◌≤◌, Some};
+ghost use Rattle.store.specs.declared.cell.Cell.{Cell};
+ghost use Rattle.store.specs.Meaning.{Asked};
 ghost use Rattle.store.specs.Cells.{holds};
 ghost use Rattle.store.specs.Numbers.{times, opt};
 ghost use Rattle.store.specs.Heap.{Heap, deferred, settled, sunk_all, front_all, turned, turned_pile};
-ghost use Rattle.store.specs.Sound.{Okay, Piling, Lawful};
+ghost use Rattle.store.specs.Sound.{Okay, Piling, Lawful, reclaimed};
+ghost use Rattle.store.specs.Stores.{DeferringDid, EagerOkay, EagerDid, Keeping, Telling, few_changed, all_clean};
 ghost use Rattle.store.specs.View.{heap};
 ghost use Rattle.store.specs.Sinks.{defers};
 ghost use Rattle.store.specs.Pile.{eagers};
+ghost use Rattle.store.specs.Ways.{later_keeps, later_tells, at_once_keeps, at_once_tells};
 
 use crate::cell::Cell;
 use crate::table::Table;
@@ -14,12 +18,28 @@ use crate::table::Table;
 pub trait Lowering {
     ghost lowered: { Heap → ℕ → Heap };
 
-    fn lower(&self, table: &mut Table<'_>, c: u16)
+    // what the store keeps of its table between calls
+    ghost okay: { Heap → Type 0 };
+
+    // a cell as it stands between calls
+    ghost tidy: { Cell → Cell };
+
+    // what one change does to the table
+    ghost did: { Heap → Asked → Heap → Type 0 };
+
+    // what is seen of the table before and after a call, whether it changed the table or not
+    ghost shows: { Heap → Heap → Type 0 };
+
+    fn lower(table: &mut Table<'_>, c: u16)
         requires okay { Okay (heap table.old) }
         requires held { 0 < holds (heap table.old).cells c }
         ensures { heap table.new ≡ lowered (heap table.old) c };
 
     ghost lawful: { Lawful lowered };
+
+    ghost keeps: { Keeping lowered okay tidy };
+
+    ghost tells: { Telling lowered okay did shows };
 }
 
 // The cell is listed with its links untouched.
@@ -29,9 +49,21 @@ pub struct Later;
 impl Lowering for Later {
     ghost lowered = { deferred };
 
+    ghost okay = { Okay };
+
+    ghost tidy = { λ x. x };
+
+    ghost did = { DeferringDid };
+
+    ghost shows = { few_changed };
+
     ghost lawful = { defers };
 
-    fn lower(&self, table: &mut Table<'_>, c: u16) {
+    ghost keeps = { later_keeps };
+
+    ghost tells = { later_tells };
+
+    fn lower(table: &mut Table<'_>, c: u16) {
         table.free = table.sink(c, table.free);
     }
 }
@@ -44,9 +76,21 @@ pub struct AtOnce;
 impl Lowering for AtOnce {
     ghost lowered = { settled };
 
+    ghost okay = { EagerOkay };
+
+    ghost tidy = { reclaimed };
+
+    ghost did = { EagerDid };
+
+    ghost shows = { all_clean };
+
     ghost lawful = { eagers };
 
-    fn lower(&self, table: &mut Table<'_>, c: u16) {
+    ghost keeps = { at_once_keeps };
+
+    ghost tells = { at_once_tells };
+
+    fn lower(table: &mut Table<'_>, c: u16) {
         let mut pile = table.sink(c, None);
         'emptying: while let Some(top) = pile {
             pile = take_topmost(table, top);

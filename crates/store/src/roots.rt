@@ -2,7 +2,7 @@ ghost use Rattle.std.specs.Prelude.{◌≡◌, ℕ, map, length, set, replicate,
 ghost use Rattle.store.specs.Interface.{on};
 ghost use Rattle.store.specs.Rooted.{root_at, SetTold};
 
-use crate::hold::Hold;
+use crate::hold::{Hold, given_up};
 
 // Sixteen roots, numbered 0–15. A root in use keeps the number of a cell in the place of the hold that was set in it,
 // and the hold comes back when the root is emptied. It is no `Clone`, so none comes back twice.
@@ -24,7 +24,7 @@ impl Roots {
     pub fn set(&mut self, r: u8, hold: Hold) -> Result<(), Hold>
         ensures { SetTold self.old.slots self.new.slots r hold result }
     {
-        let i = r as usize;
+        let i = usize::from(r);
         if i >= 16 {
             return Err(hold);
         }
@@ -43,34 +43,24 @@ impl Roots {
         ensures given { on result ≡ root_at self.old.slots r }
         ensures emptied { self.new.slots ≡ slice_set self.old.slots r None }
     {
-        let i = r as usize;
+        let i = usize::from(r);
         if i >= 16 {
             return None;
         }
-        let was = self.slots[i];
-        self.slots[i] = None;
-        match was {
-            Some(cell) => Some(Hold { cell }),
-            None => None,
-        }
+        given_up(self.slots[i].take())
     }
 
     // Which roots are in use.
     pub fn in_use(&self) -> [bool; 16]
         ensures { result ≡ map is_some self.now.slots }
     {
-        let mut used = [false; 16];
-        'each: for i in 0..16 {
-            used[i] = self.slots[i].is_some();
-        }
-        used
+        self.slots.map(|slot| slot.is_some())
     }
 
     // The number of the cell that a root names.
     pub fn number(&self, r: u8) -> Option<u16>
         ensures { result ≡ root_at self.now.slots r }
     {
-        let i = r as usize;
-        if i < 16 { self.slots[i] } else { None }
+        self.slots.get(usize::from(r)).copied().flatten()
     }
 }

@@ -3,14 +3,16 @@ ghost use Rattle.store.specs.declared.fault.SetupFault.TheVariants.{TableSize};
 ghost use Rattle.store.specs.Numbers.{item};
 ghost use Rattle.store.specs.Cells.{at, links_of};
 ghost use Rattle.store.specs.Heap.{cell, raised, sunk, front, claimed, stripped, shed, filled};
-ghost use Rattle.store.specs.Interface.{Fits, asked_for, on};
+ghost use Rattle.store.specs.Interface.{asked_for};
 ghost use Rattle.store.specs.Sound.{Fitting};
 ghost use Rattle.store.specs.Setup.{Sized, fresh, fresh_cell};
 ghost use Rattle.store.specs.View.{heap};
 
 use crate::cell::Cell;
+use crate::content::Content;
 use crate::fault::{BadTable, SetupFault};
 use crate::hold::{Hold, Links};
+use std::mem;
 
 // The most cells that a table may have.
 pub const MOST_CELLS: usize = 4096;
@@ -47,14 +49,13 @@ fn list_all(cells: &mut [Cell])
     ensures { cells.new ≡ (fresh (length cells.old)).cells }
 {
     let n = cells.len();
-    'each: for i in 0..n {
-        let next = if i + 1 == n {
-            None
-        } else {
-            Some((i + 1) as u16)
-        };
-        cells[i] = Cell {
-            next,
+    'each: for (i, cell) in cells.iter_mut().enumerate() {
+        *cell = Cell {
+            next: if i + 1 == n {
+                None
+            } else {
+                Some((i + 1) as u16)
+            },
             ..Cell::BLANK
         };
     }
@@ -65,7 +66,7 @@ impl Table<'_> {
         requires { c < length self.now.cells.now }
         ensures { result ≡ at self.now.cells.now c }
     {
-        self.cells[c as usize]
+        self.cells[usize::from(c)]
     }
 
     // The cell that link k of c leads to.
@@ -74,7 +75,7 @@ impl Table<'_> {
         requires shaped { Fitting (at self.now.cells.now c).kind (at self.now.cells.now c).link0 (at self.now.cells.now c).link1 }
         ensures { result ≡ item (links_of (at self.now.cells.now c)) k }
     {
-        let cell = self.cells[c as usize];
+        let cell = self.cells[usize::from(c)];
         match k {
             0 => cell.link0,
             1 => cell.link1,
@@ -87,12 +88,7 @@ impl Table<'_> {
         requires fits { (at self.old.cells.now c).count < 65535 }
         ensures { heap self.new ≡ raised (heap self.old) c }
     {
-        let i = c as usize;
-        let cell = self.cells[i];
-        self.cells[i] = Cell {
-            count: cell.count + 1,
-            ..cell
-        };
+        self.cells[usize::from(c)].count += 1;
     }
 
     // Takes one from the count of c; a cell whose count falls to 0 goes before the list that begins at head.
@@ -103,20 +99,12 @@ impl Table<'_> {
         ensures table { heap self.new ≡ sunk (heap self.old) c head }
         ensures front { result ≡ front (heap self.old) c head }
     {
-        let i = c as usize;
-        let cell = self.cells[i];
-        if cell.count == 1 {
-            self.cells[i] = Cell {
-                count: 0,
-                next: head,
-                ..cell
-            };
+        let cell = &mut self.cells[usize::from(c)];
+        cell.count -= 1;
+        if cell.count == 0 {
+            cell.next = head;
             Some(c)
         } else {
-            self.cells[i] = Cell {
-                count: cell.count - 1,
-                ..cell
-            };
             head
         }
     }
@@ -127,12 +115,13 @@ impl Table<'_> {
         ensures table { heap self.new ≡ claimed (heap self.old) c }
         ensures old { result ≡ cell (heap self.old) c }
     {
-        let i = c as usize;
-        let old = self.cells[i];
-        self.cells[i] = Cell {
-            count: 1,
-            ..Cell::BLANK
-        };
+        let old = mem::replace(
+            &mut self.cells[usize::from(c)],
+            Cell {
+                count: 1,
+                ..Cell::BLANK
+            },
+        );
         self.free = old.next;
         old
     }
@@ -143,9 +132,9 @@ impl Table<'_> {
         ensures table { heap self.new ≡ stripped (heap self.old) c }
         ensures old { result ≡ cell (heap self.old) c }
     {
-        let i = c as usize;
-        let old = self.cells[i];
-        self.cells[i] = Cell {
+        let cell = &mut self.cells[usize::from(c)];
+        let old = *cell;
+        *cell = Cell {
             count: old.count,
             next: old.next,
             ..Cell::BLANK
@@ -159,44 +148,27 @@ impl Table<'_> {
         ensures table { heap self.new ≡ shed (heap self.old) c }
         ensures old { result ≡ cell (heap self.old) c }
     {
-        let i = c as usize;
-        let old = self.cells[i];
-        self.cells[i] = Cell {
-            next: self.free,
+        let wiped = Cell {
+            next: self.free.replace(c),
             ..Cell::BLANK
         };
-        self.free = Some(c);
-        old
+        mem::replace(&mut self.cells[usize::from(c)], wiped)
     }
 
     // Writes a content into c, whose count stays; the holds become its links.
-    pub(crate) fn fill(&mut self, c: u16, kind: u8, value: i32, links: Links)
-        requires inside { c < length self.old.cells.now }
-        requires fits { Fits kind links }
-        ensures { heap self.new ≡ filled (heap self.old) c (asked_for kind value links) }
+    pub(crate) fn fill(&mut self, c: u16, content: Content)
+        requires { c < length self.old.cells.now }
+        ensures { heap self.new ≡ filled (heap self.old) c (asked_for content.kind content.value content.links) }
     {
-        let i = c as usize;
-        let old = self.cells[i];
+        let Content { kind, value, links } = content;
         let Links { first, second } = links;
-        let link0 = number(first);
-        let link1 = number(second);
-        self.cells[i] = Cell {
+        let cell = &mut self.cells[usize::from(c)];
+        *cell = Cell {
             kind,
             value,
-            link0,
-            link1,
-            count: old.count,
-            next: old.next,
+            link0: first.map(|Hold { cell }| cell),
+            link1: second.map(|Hold { cell }| cell),
+            ..*cell
         };
-    }
-}
-
-// A hold becomes the number that a link keeps.
-fn number(h: Option<Hold>) -> Option<u16>
-    ensures { result ≡ on h }
-{
-    match h {
-        Some(Hold { cell }) => Some(cell),
-        None => None,
     }
 }

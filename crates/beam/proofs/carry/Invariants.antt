@@ -1,6 +1,6 @@
 use Rattle.std.proofs.Common.{[]}
-use Rattle.store.specs.Meaning.{Out}
+use Rattle.beam.specs.Carried.{Holding}
 use Rattle.beam.proofs.carry.Given as goal
 
 abbrev pub invariant-each : goal.invariant-each
-invariant-each g l = g.S.Store.ok l.store × Out (g.S.Store.means l.store) []
+invariant-each g l = Holding g.S.Store l.store []

@@ -1,14 +1,10 @@
 use Rattle.std.proofs.Common.{rules}
-use Rattle.std.proofs.lemmas.Int.Digits.{digits_more}
-use Rattle.std.proofs.lemmas.Str.Parse.{digit_at}
-use Rattle.jildorba.proofs.Words.{all_digits}
+use borrow.Author.Tests.{tests}
+use Rattle.std.specs.Char.{is_ascii_digit}
+use Rattle.std.proofs.lemmas.Iterator.{YieldsList-from_slice}
+use Rattle.std.proofs.lemmas.Iterator.Search.{all_from_yields_List}
+use Rattle.jildorba.proofs.Words.{told}
 use Rattle.jildorba.proofs.numbers.all_digits.Goals as goal
 
-pub returns-then-not-is_ascii_digit : goal.returns-then-not-is_ascii_digit
-returns-then-not-is_ascii_digit c = λ d. search (rules, digit_at)
-
-pub each-preserved : goal.each-preserved
-each-preserved c = search (rules, digits_more)
-
 pub returns : goal.returns
-returns c = search (rules, all_digits)
+returns c = rw (all_from_yields_List is_ascii_digit _ _ c.all.result c.all.ensures.ran (YieldsList-from_slice c.args.bytes.now cc) (λ x b q k. search (rules, tests))) (told c.args.bytes.now)

@@ -1,8 +1,9 @@
-use Rattle.std.proofs.Common.{◌≡◌, ℕ, ◌+◌, Bool, List, ◌∷◌, Option, Result, ap, ◌∙◌}
+use Rattle.std.proofs.Common.{◌≡◌, ℕ, ◌+◌, Bool, List, ◌∷◌, Err, Option, Result, ap, ◌∙◌}
+use Rattle.bench.specs.Tests.{first}
 use Rattle.rule.specs.declared.fault.Flaw.TheVariants.{NotOwned}
 use Rattle.rule.specs.declared.fault.Spot.{Spot}
 use Rattle.rule.specs.Read.{tree}
-use Rattle.rule.specs.Check.{marked, either, differing, differs, at_place, first, size, tests, verdict, block_answer}
+use Rattle.rule.specs.Check.{marked, either, differing, differs, at_place, size, tests, verdict, block_answer}
 use Rattle.rule.proofs.check.check_headed.Goals as goal
 
 -- what the head's test finds
@@ -17,7 +18,7 @@ pub returns-in-Some : goal.returns-in-Some
 returns-in-Some c =
     let h = c.args.head.now in
     let e = c.in-Some.ensures ∙ told h.enter h.leave h.own c.marked-used.ensures c.marked-out.ensures c.marked-own.ensures c.either.ensures c.either-2.ensures in
-    c.refuse.ensures ∙ ap (answered h.enter h.leave h.own c.args.rest.now) e
+    ap Err c.at.ensures ∙ ap (answered h.enter h.leave h.own c.args.rest.now) e
 
 pub returns-in-None : goal.returns-in-None
 returns-in-None c =

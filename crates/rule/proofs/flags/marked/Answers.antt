@@ -1,15 +1,9 @@
-use Rattle.std.proofs.Common.{refl, ◌∙◌, arith, length-set}
-use Rattle.rule.proofs.Flagged.{marks_more, marks_all}
+use Rattle.std.proofs.Common.{◌/◌, ◌^◌, eqb, rules}
+use borrow.Author.Tests.{tests}
+use Rattle.std.specs.Int.Bits.{bit_and}
+use Rattle.rule.specs.Check.{bits}
+use Rattle.rule.proofs.Flagged.{made, length-bits, bits_at}
 use Rattle.rule.proofs.flags.marked.Goals as goal
 
-pub each-init : goal.each-init
-each-init c = (refl, refl)
-
-pub each-preserved : goal.each-preserved
-each-preserved c = (
-  length-set c.each.flags c.each.r _ ∙ c.each.invariant.0,
-  marks_more c.each.flags _ c.each.r c.each.left _ (omega (arith, c.each-test.true, c.each.invariant.0)) c.each-test.true refl c.each.invariant.1,
-)
-
 pub returns : goal.returns
-returns c = marks_all c.each.flags _ c.each.r c.each.left (omega (arith, c.each-test.false, c.each.invariant.0)) c.each-test.false c.each.invariant.1
+returns c = made _ _ (λ k. eqb (bit_and (c.args.mask / 2 ^ k) 1) 1) (λ i y q k. search (rules, tests)) c.from_fn.result 16 c.from_fn.ensures.items (bits 16 c.args.mask) (length-bits 16 c.args.mask) (bits_at 16 c.args.mask)

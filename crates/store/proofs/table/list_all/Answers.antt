@@ -11,14 +11,14 @@ pub each-preserved : goal.each-preserved
 each-preserved c =
     let n = length c.args.cells.now in
     let i = c.each.i in
-    let next : c.if-i-n.next ≡ cond (eqb (i + 1) n) None (Some (i + 1)) =
+    let next : c.if-i-n.cell ≡ cond (eqb (i + 1) n) None (Some (i + 1)) =
     elim c.if-i-n.branch [
-      | then-i-n w ↦ w.next-is ∙ sym (cond-true (eqb (i + 1) n) None (Some (i + 1)) (eq-eqb (i + 1) n w.if-i-n.true))
-      | else-i-n w ↦ w.next-is ∙ sym (cond-false (eqb (i + 1) n) None (Some (i + 1)) (ne_eqb (i + 1) n w.if-i-n.false))
+      | then-i-n w ↦ w.cell-is ∙ sym (cond-true (eqb (i + 1) n) None (Some (i + 1)) (eq-eqb (i + 1) n w.if-i-n.true))
+      | else-i-n w ↦ w.cell-is ∙ sym (cond-false (eqb (i + 1) n) None (Some (i + 1)) (ne_eqb (i + 1) n w.if-i-n.false))
     ] in
     below_more _ _
-    (λ k h. at_other c.each.cells i (empty 0 c.if-i-n.next) k (λ e. omega arith) ∙ c.each.invariant k h)
-    (at_self c.each.cells i (empty 0 c.if-i-n.next) (omega arith) ∙ ap (empty 0) next)
+    (λ k h. at_other c.each.cells i (empty 0 c.if-i-n.cell) k (λ e. omega arith) ∙ c.each.invariant k h)
+    (at_self c.each.cells i (empty 0 c.if-i-n.cell) (omega arith) ∙ ap (empty 0) next)
 
 pub returns : goal.returns
 returns c =

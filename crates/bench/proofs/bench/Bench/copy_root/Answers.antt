@@ -1,58 +1,18 @@
-use Rattle.std.proofs.Common.{◌≡◌, ℕ, List, set, Some, None, Ok, Option, sym, ap, ◌∙◌, subst, arith}
-use Rattle.store.specs.Meaning.{copying}
-use Rattle.store.specs.Rooted.{root_at}
-use Rattle.bench.specs.declared.call.Call.TheVariants.{Copy}
-use Rattle.bench.specs.declared.call.Answer.TheVariants.{Done}
-use Rattle.bench.specs.Bench.{Answers, put, cell_in}
-use Rattle.bench.proofs.Facts.{asks, few_of, not_none}
-use Rattle.bench.proofs.Passes.{copy_passes}
-use Rattle.bench.proofs.Slots.{spend_none}
+use Rattle.std.proofs.Common.{◌≡◌, Some, set, ◌∙◌}
+use Rattle.bench.specs.Handing.{put}
+use Rattle.bench.proofs.Facts.{few_of, held_of}
 use Rattle.bench.proofs.Taking.{restored}
-use Rattle.bench.proofs.Replies.{copy_replies}
+use Rattle.bench.proofs.Sending.{copy_sent}
 use Rattle.bench.proofs.bench.Bench.copy_root.Goals as goal
 
--- the root that is copied names its cell again
-back : (slots one two : List (Option ℕ)) (s c : ℕ) → one ≡ set slots s None → two ≡ set one s (Some c) → Some c ≡ root_at slots s → two ≡ slots
-back slots one two s c e f g = f ∙ (λ i. put (e i) s (g i)) ∙ restored slots s
+pub copy-copy-requires-clause-few : goal.copy-copy-requires-clause-few
+copy-copy-requires-clause-few g c = few_of c.requires.stood
 
-pub copy-k-requires : goal.copy-k-requires
-copy-k-requires g c =
-    record { ok = c.requires.ok; few = few_of c.requires.stood; held = (asks c.requires.stood).held c.args.s c.in-Some.h.cell (sym c.in-Some.ensures.given) }
-
-pub fill-requires : goal.fill-requires
-fill-requires g c =
-    let slots = c.args.self.now.roots.slots in
-    record { root = (copy_passes slots c.args.s c.args.d c.requires.passed).from; empty = ap (λ (l : List (Option ℕ)). root_at l c.args.s) c.in-Some.ensures.emptied ∙ spend_none slots c.args.s }
-
-pub fill-requires-in-Some : goal.fill-requires-in-Some
-fill-requires-in-Some g c =
-    let slots = c.args.self.now.roots.slots in
-    let p = copy_passes slots c.args.s c.args.d c.requires.passed in
-    let e = back slots c.empty.new.self.slots c.fill.new.self.roots.slots c.args.s c.in-Some.h.cell c.in-Some.ensures.emptied c.fill.ensures.filled c.in-Some.ensures.given in
-    record { root = p.there; empty = ap (λ (l : List (Option ℕ)). root_at l c.args.d) e ∙ p.clear }
-
-pub unreachable-requires : goal.unreachable-requires
-unreachable-requires g c =
-    let slots = c.args.self.now.roots.slots in
-    not_none (root_at slots c.args.s) (copy_passes slots c.args.s c.args.d c.requires.passed).used c.in-None.ensures.given
+pub copy-copy-requires-clause-held : goal.copy-copy-requires-clause-held
+copy-copy-requires-clause-held g c = held_of c.args.s c.requires.stood c.take-hold.ensures.given
 
 pub returns : goal.returns
 returns g c =
     let slots = c.args.self.now.roots.slots in
-    let m = g.S.Store.means c.args.self.now.store in
-    let n = g.S.Store.means c.copy-k.new.self in
-    let s = c.args.s in
-    let d = c.args.d in
-    let h = c.in-Some.h.cell in
-    let p = copy_passes slots s d c.requires.passed in
-    let e = back slots c.empty.new.self.slots c.fill.new.self.roots.slots s h c.in-Some.ensures.emptied c.fill.ensures.filled c.in-Some.ensures.given in
-    let here = c.fill-in-Some.ensures.store ∙ c.fill.ensures.store in
-    let new : c.fill-in-Some.new.self.roots.slots ≡ set slots d (Some h) = c.fill-in-Some.ensures.filled ∙ (λ i. set (e i) d (Some (c.copy-k.ensures.same i))) in
-    record {
-      ok = subst g.S.Store.ok (sym here) c.copy-k.ensures.ok;
-      effect = subst (g.S.Store.did c.args.self.now.store (copying (cell_in (root_at slots s)))) (sym here)
-          (subst (λ k. g.S.Store.did c.args.self.now.store (copying k) c.copy-k.new.self) (ap cell_in c.in-Some.ensures.given) c.copy-k.ensures.did);
-      told = subst (λ x. Answers slots m (Copy s d) (Ok Done) c.fill-in-Some.new.self.roots.slots (g.S.Store.means x)) (sym here)
-          (subst (λ (l : List (Option ℕ)). Answers slots m (Copy s d) (Ok Done) l n) (sym new)
-          (copy_replies slots m n s d h c.requires.passed (sym c.in-Some.ensures.given) (omega (arith, p.there, c.requires.stood.sized)) p.clear c.copy-k.ensures.told));
-    }
+    let back : c.fill.new.roots.slots ≡ slots = c.fill.ensures ∙ (λ i. put (c.take-hold.ensures.emptied i) c.args.s (c.take-hold.ensures.given i)) ∙ restored slots c.args.s in
+    copy_sent g.S.Store c.args.self.now _ c.args.s c.args.d c.take-hold.result.cell c.requires c.take-hold.ensures.given (c.fill-2.ensures ∙ (λ i. set (back i) c.args.d (Some (c.copy-copy.ensures.same i)))) c.copy-copy.ensures.ok c.copy-copy.ensures.told c.copy-copy.ensures.did

@@ -1,0 +1,10 @@
+-- The kinds of the cells that follow a beam.
+use Rattle.std.specs.Prelude.{ℕ}
+use Rattle.beam.specs.declared.beam.Axis.{Axis}
+use Rattle.beam.specs.declared.beam.Axis.TheVariants.{Trolley, Slew, Hoist}
+
+-- of the pose that an axis leaves
+abbrev pub pose_kind : Axis → ℕ
+pose_kind Trolley = 66
+pose_kind Slew = 67
+pose_kind Hoist = 68
