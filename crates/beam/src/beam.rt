@@ -1,6 +1,6 @@
 ghost use Rattle.std.specs.Prelude.{◌≡◌};
 ghost use Rattle.store.specs.Meaning.{arity};
-ghost use Rattle.beam.specs.Kinds.{pose_kind};
+ghost use Rattle.beam.specs.Kinds.{pose_kind, step_of};
 
 use std::fmt;
 
@@ -54,7 +54,9 @@ pub enum Axis {
 impl Axis {
     // What moving it so far leaves.
     pub fn by(self, far: i32) -> Move
-        ensures { result.kind ≡ pose_kind self }
+        ensures kind { result.kind ≡ pose_kind self }
+        ensures value { result.value ≡ far }
+        ensures step { result.step ≡ step_of self }
     {
         Move {
             kind: self.kind(),

@@ -3,7 +3,7 @@ use Rattle.std.specs.Prelude.{◌≡◌, ℕ, ◌+◌, Bool, true, false, cond, 
 use Rattle.store.specs.Rooted.{root_at}
 use Rattle.store.specs.declared.fault.StoreFault.TheVariants.{NoCell}
 use Rattle.bench.specs.declared.call.Call.{Call}
-use Rattle.bench.specs.declared.call.Call.TheVariants.{Make, Copy, Release, Match, Rebuild, Look}
+use Rattle.bench.specs.declared.call.Call.TheVariants.{Match}
 use Rattle.bench.specs.declared.call.Answer.{Answer}
 use Rattle.bench.specs.declared.call.Answer.TheVariants.{Done, Value, OtherKind, Cell, Sameness}
 use Rattle.bench.specs.declared.fault.BenchFault.{BenchFault}
@@ -15,6 +15,7 @@ use Rattle.bench.specs.Step as bench
 use Rattle.rule.specs.Sheet.{Head, Step, make, copy, release, rebuild, put, sum, difference, look, match, test}
 use Rattle.rule.specs.Read.{head_at, Tree, step, fork, done, broken, tree}
 use Rattle.rule.specs.Check.{marked, differing, answer}
+use Rattle.rule.specs.Judged.{step_call}
 
 -- eight slots
 abbrev pub slot_at : List ℤ → ℕ → ℤ
@@ -32,16 +33,20 @@ pub record Stop : Type 0 where
 abbrev pub Ran : Type 0
 Ran = Result ℕ Stop × Machine
 
--- the call that a record makes, if it makes one; a new cell takes its value from a slot
+-- what a new cell takes from the slots as its value
+abbrev pub value_of : Step → List ℤ → ℤ
+value_of (make d k s a b) z = slot_at z s
+value_of (rebuild r k s a b) z = slot_at z s
+value_of (copy s d) z = pos 0
+value_of (release r) z = pos 0
+value_of (look r s) z = pos 0
+value_of (put s v) z = pos 0
+value_of (sum t x y) z = pos 0
+value_of (difference t x y) z = pos 0
+
+-- the call that a record makes, if it makes one
 abbrev pub call_of : Step → List ℤ → Option Call
-call_of (make d k s a b) z = Some (Make d k (slot_at z s) a b)
-call_of (copy s d) z = Some (Copy s d)
-call_of (release r) z = Some (Release r)
-call_of (rebuild r k s a b) z = Some (Rebuild r k (slot_at z s) a b)
-call_of (look r s) z = Some (Look r)
-call_of (put s v) z = None
-call_of (sum x y w) z = None
-call_of (difference x y w) z = None
+call_of s z = step_call s (value_of s z)
 
 -- what a look puts in a slot
 abbrev pub seen : Answer → ℤ → ℤ
