@@ -1,4 +1,5 @@
-ghost use Rattle.std.specs.Prelude.{◌≡◌};
+ghost use Rattle.std.specs.Prelude.{◌≡◌, [], ◌∷◌};
+ghost use Rattle.beam.specs.declared.beam.Axis.TheVariants.{Trolley, Slew, Hoist};
 ghost use Rattle.store.specs.Meaning.{arity};
 ghost use Rattle.beam.specs.Kinds.{pose_kind, step_of};
 
@@ -17,7 +18,9 @@ pub struct Beam {
 
 impl Beam {
     // How far each axis moves, in the order in which they do.
-    pub fn moves(&self) -> [(Axis, i32); 3] {
+    pub fn moves(&self) -> [(Axis, i32); 3]
+        ensures { result ≡ (Trolley, self.now.trolley) ∷ ((Slew, self.now.slew) ∷ ((Hoist, self.now.hoist) ∷ [])) }
+    {
         [
             (Axis::Trolley, self.trolley),
             (Axis::Slew, self.slew),

@@ -1,3 +1,6 @@
+ghost use Rattle.std.specs.Prelude.{◌≡◌};
+ghost use Rattle.beam.specs.Kinds.{stage_of};
+
 use crate::beam::Axis;
 use std::{array, fmt};
 use store::cell::Cell;
@@ -22,6 +25,8 @@ pub enum Stage {
 
 // Once the axis has moved.
 impl From<Axis> for Stage {
+    ghost from_gives = { λ axis r. r ≡ stage_of axis };
+
     fn from(axis: Axis) -> Stage {
         match axis {
             Axis::Trolley => Stage::TrolleyMoved,

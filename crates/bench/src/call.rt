@@ -54,6 +54,7 @@ pub enum Call {
 
 impl Call {
     // The root fields, from left to right.
+    #[inline(always)]
     pub fn fields(&self) -> [Option<Field>; 4]
         ensures { result ≡ quad (map Some (fields self.now)) }
     {
@@ -75,6 +76,7 @@ impl Call {
     }
 
     // Whether the roots for links fit the kind.
+    #[inline(always)]
     pub fn links_fit(&self) -> bool
         ensures { result ≡ links_fit self.now }
     {
@@ -87,6 +89,7 @@ impl Call {
     }
 
     // What it does to roots, in the order of spending and filling; a match as it does where its cell has the kind.
+    #[inline(always)]
     pub fn touches(&self) -> [Option<Touch>; 4]
         ensures { result ≡ quad (touches self.now) }
     {

@@ -11,6 +11,7 @@ use store::hold::{Hold, Links};
 use store::roots::Roots;
 
 // The cell that a root in use names.
+#[inline(always)]
 pub fn cell(roots: &Roots, r: u8) -> u16
     requires { is_some (root_at roots.now.slots r) ≡ true }
     ensures { Some result ≡ root_at roots.now.slots r }
@@ -22,6 +23,7 @@ pub fn cell(roots: &Roots, r: u8) -> u16
 }
 
 // Takes the hold out of a root in use.
+#[inline(always)]
 pub fn take(roots: &mut Roots, r: u8) -> Hold
     requires { is_some (root_at roots.old.slots r) ≡ true }
     ensures given { Some result.cell ≡ root_at roots.old.slots r }
@@ -34,6 +36,7 @@ pub fn take(roots: &mut Roots, r: u8) -> Hold
 }
 
 // Takes the hold out of a link's root; none where the field is 255.
+#[inline(always)]
 fn take_link(roots: &mut Roots, a: u8) -> Option<Hold>
     ensures emptied { roots.new.slots ≡ spent roots.old.slots (linked a) }
     ensures given { on result ≡ (if nat_eq a 255 then None else root_at roots.old.slots a) }
@@ -42,6 +45,7 @@ fn take_link(roots: &mut Roots, a: u8) -> Option<Hold>
 }
 
 // What a new cell is to hold, with the holds for its links, which are taken out of their roots.
+#[inline(always)]
 pub fn take_content(roots: &mut Roots, kind: u8, value: i32, a: u8, b: u8) -> Content
     requires { LinksPassed roots.old.slots kind a b }
     ensures asked { asked_for result.kind result.value result.links ≡ record { kind = kind; value = value; links = taken roots.old.slots (link_roots a b) } }
@@ -57,6 +61,7 @@ pub fn take_content(roots: &mut Roots, kind: u8, value: i32, a: u8, b: u8) -> Co
 }
 
 // Sets a hold in a root that is known to be empty.
+#[inline(always)]
 pub fn fill(roots: &mut Roots, r: u8, hold: Hold)
     requires root { r < 16 }
     requires empty { root_at roots.old.slots r ≡ None }
@@ -68,6 +73,7 @@ pub fn fill(roots: &mut Roots, r: u8, hold: Hold)
     }
 }
 
+#[inline(always)]
 fn fill_some(roots: &mut Roots, a: u8, hold: Option<Hold>)
     requires { Back roots.old.slots a (on hold) }
     ensures { roots.new.slots ≡ put roots.old.slots a (on hold) }
@@ -78,6 +84,7 @@ fn fill_some(roots: &mut Roots, a: u8, hold: Option<Hold>)
 }
 
 // Sets the holds for links in their roots.
+#[inline(always)]
 pub fn fill_links(roots: &mut Roots, a: u8, b: u8, links: Links)
     requires { Settable roots.old.slots a b links }
     ensures { roots.new.slots ≡ put_links roots.old.slots a b links }

@@ -7,6 +7,7 @@ use crate::fault::{BenchFault, NoSuchRoot, TouchFault};
 use store::cell::links_of_kind;
 
 // The tests of a call, in their order: the root fields, the links against the kind, then the roots in use.
+#[inline(always)]
 pub fn test(call: &Call, used: &[bool; 16]) -> Result<(), BenchFault>
     ensures { result ≡ verdict (fault_of call.now used.now) }
 {
@@ -16,6 +17,7 @@ pub fn test(call: &Call, used: &[bool; 16]) -> Result<(), BenchFault>
 }
 
 // The first of the items that are there that fails the test.
+#[inline(always)]
 pub fn test_each<T: Copy, E, F: Fn(T) -> Result<(), E>>(
     items: &[Option<T>],
     test: F,
@@ -32,6 +34,7 @@ pub fn test_each<T: Copy, E, F: Fn(T) -> Result<(), E>>(
 }
 
 // A field that names no root.
+#[inline(always)]
 pub fn test_field(field: Field) -> Result<(), NoSuchRoot>
     ensures { result ≡ verdict (unnamed field) }
 {
@@ -42,6 +45,7 @@ pub fn test_field(field: Field) -> Result<(), NoSuchRoot>
     }
 }
 
+#[inline(always)]
 fn test_links(call: &Call) -> Result<(), BenchFault>
     ensures { result ≡ verdict (link_fault call.now) }
 {
@@ -53,6 +57,7 @@ fn test_links(call: &Call) -> Result<(), BenchFault>
 }
 
 // A link's root is 255 exactly where the kind lacks the link.
+#[inline(always)]
 pub fn fits_kind(kind: u8, a: u8, b: u8) -> bool
     ensures { result ≡ fits_kind kind a b }
 {
@@ -61,6 +66,7 @@ pub fn fits_kind(kind: u8, a: u8, b: u8) -> bool
 }
 
 // The first root that is empty where it is used, or in use where it is filled.
+#[inline(always)]
 fn test_roots(used: &[bool; 16], touches: &[Option<Touch>]) -> Result<(), BenchFault>
     ensures { result ≡ verdict (touch_fault touches.now used.now) }
 {
@@ -70,6 +76,7 @@ fn test_roots(used: &[bool; 16], touches: &[Option<Touch>]) -> Result<(), BenchF
 }
 
 // What the touches leave in use, one after another, unless one is refused.
+#[inline(always)]
 pub fn test_touches(used: &mut [bool; 16], touches: &[Option<Touch>]) -> Result<(), TouchFault>
     ensures told { result ≡ verdict (first_denied touches.now used.old) }
     ensures after { result ≡ Ok tt → used.new ≡ after_touches touches.now used.old }
@@ -83,6 +90,7 @@ pub fn test_touches(used: &mut [bool; 16], touches: &[Option<Touch>]) -> Result<
 }
 
 // What the touch leaves in use, unless it is refused.
+#[inline(always)]
 pub fn test_touch(used: &mut [bool; 16], touch: Touch) -> Result<(), TouchFault>
     ensures told { result ≡ verdict (touch_denied touch used.old) }
     ensures after { result ≡ Ok tt → used.new ≡ touched touch used.old }
@@ -103,6 +111,7 @@ pub fn test_touch(used: &mut [bool; 16], touch: Touch) -> Result<(), TouchFault>
 }
 
 // Nothing where there is no such root.
+#[inline(always)]
 pub fn put(used: &mut [bool; 16], r: u8, flag: bool)
     ensures { used.new ≡ slice_set used.old r flag }
 {
@@ -111,6 +120,7 @@ pub fn put(used: &mut [bool; 16], r: u8, flag: bool)
     }
 }
 
+#[inline(always)]
 pub fn in_use(used: &[bool; 16], r: u8) -> bool
     ensures { result ≡ in_use used.now r }
 {
@@ -118,6 +128,7 @@ pub fn in_use(used: &[bool; 16], r: u8) -> bool
 }
 
 // The root that a link's field names; none where it is 255.
+#[inline(always)]
 pub fn link(a: u8) -> Option<u8>
     ensures { result ≡ link a }
 {

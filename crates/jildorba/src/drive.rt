@@ -1,4 +1,5 @@
-ghost use Rattle.std.specs.Prelude.{◌≡◌, ◌+◌, ◌<◌, ◌≤◌, ◌^◌, length, IfOk};
+ghost use Rattle.std.specs.Prelude.{◌≡◌, ◌+◌, ◌<◌, ◌≤◌, ◌^◌, [], length, IfOk};
+ghost use Rattle.std.specs.String.{string_bytes};
 ghost use Rattle.jildorba.specs.Parts.{Onward, OpensAfter};
 
 use crate::hex::bytes_of;
@@ -68,7 +69,10 @@ pub struct Clerk {
 }
 
 impl Clerk {
-    pub fn new(heap: Global) -> Clerk {
+    // With nothing to print yet.
+    pub fn new(heap: Global) -> Clerk
+        ensures { string_bytes result.out ≡ [] }
+    {
         Clerk {
             heap,
             out: String::new(heap),

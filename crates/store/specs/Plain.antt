@@ -5,7 +5,7 @@ use Rattle.store.specs.Numbers.{times}
 use Rattle.store.specs.Meaning.{arity}
 use Rattle.store.specs.Cells.{at, links_of, inlinks, holds}
 use Rattle.store.specs.Heap.{Heap}
-use Rattle.store.specs.Sound.{Okay, Clean}
+use Rattle.store.specs.Sound.{Okay, Clean, Tidy, reclaimed}
 
 -- the numbers met from head along the successors, at most k of them
 unfoldable pub walked : ℕ → List Cell → Option ℕ → List ℕ
@@ -59,3 +59,7 @@ PlainIsOkay = (h : Heap) → Plain h ↔ Okay h
 
 abbrev pub PlainIsClean : Type 0
 PlainIsClean = (cells : List Cell) → PlainClean cells ↔ Clean cells
+
+-- The same of what the type of a bench over the eager store has: each cell is as reclaiming leaves it.
+abbrev pub TidyIsClean : Type 0
+TidyIsClean = (cells : List Cell) → Tidy reclaimed cells ↔ Clean cells

@@ -17,6 +17,7 @@ use crate::table::Table;
 
 // The calls on a table, however cells are lowered.
 impl Table<'_> {
+    #[inline(always)]
     pub(crate) fn make<L: Lowering>(&mut self, content: Content) -> Result<Hold, Refused>
         requires okay { Okay (heap self.old) }
         requires spare { Spare (meaning (heap self.old).cells) (spent content.links) }
@@ -33,6 +34,7 @@ impl Table<'_> {
     }
 
     // Takes the first free cell, lowers its remaining links, link 0 first, and writes it.
+    #[inline(always)]
     fn make_in<L: Lowering>(&mut self, c: u16, content: Content) -> Hold
         requires okay { Okay (heap self.old) }
         requires first { (heap self.old).free ≡ Some c }
@@ -45,6 +47,7 @@ impl Table<'_> {
         Hold { cell: c }
     }
 
+    #[inline(always)]
     pub(crate) fn rebuild<L: Lowering>(
         &mut self,
         old: Hold,
@@ -76,6 +79,7 @@ impl Table<'_> {
     }
 
     // Lowers the links of c, link 0 first, and writes the same cell.
+    #[inline(always)]
     fn rewrite<L: Lowering>(&mut self, c: u16, content: Content)
         requires okay { Okay (heap self.old) }
         requires held { 0 < holds (heap self.old).cells c }
@@ -86,6 +90,7 @@ impl Table<'_> {
     }
 
     // Lowers the links that c had, and writes it.
+    #[inline(always)]
     fn refill<L: Lowering>(&mut self, c: u16, old: Cell, content: Content)
         requires okay { Okay (heap self.old) }
         requires inside { c < length (heap self.old).cells }
@@ -96,6 +101,7 @@ impl Table<'_> {
         self.fill(c, content);
     }
 
+    #[inline(always)]
     pub(crate) fn part<L: Lowering>(&mut self, h: Hold) -> Links
         requires okay { Okay (heap self.old) }
         requires few { Few (meaning (heap self.old).cells) }
@@ -120,6 +126,7 @@ impl Table<'_> {
         }
     }
 
+    #[inline(always)]
     fn raise_link(&mut self, link: Option<u16>)
         requires inside { (d : ℕ) → In d (opt link) → d < length (heap self.old).cells }
         requires fits { (d : ℕ) → In d (opt link) → (cell (heap self.old) d).count < 65535 }
@@ -130,6 +137,7 @@ impl Table<'_> {
         }
     }
 
+    #[inline(always)]
     fn lower_links<L: Lowering>(&mut self, old: Cell)
         requires okay { Okay (heap self.old) }
         requires held { (d : ℕ) → times d (links_of old) ≤ holds (heap self.old).cells d }
@@ -139,6 +147,7 @@ impl Table<'_> {
         self.lower_link::<L>(old.link1);
     }
 
+    #[inline(always)]
     fn lower_link<L: Lowering>(&mut self, link: Option<u16>)
         requires okay { Okay (heap self.old) }
         requires held { (d : ℕ) → times d (opt link) ≤ holds (heap self.old).cells d }

@@ -10,3 +10,8 @@ pub fn plain_is_okay()
 pub fn plain_is_clean()
     ensures { law.PlainIsClean }
 {}
+
+// And of each cell being as its store's way to lower leaves it, which stands in the type of a bench.
+pub fn tidy_is_clean()
+    ensures { law.TidyIsClean }
+{}

@@ -3,6 +3,7 @@ ghost use Rattle.store.specs.Interface.{on};
 ghost use Rattle.store.specs.Rooted.{root_at, SetTold};
 
 use crate::hold::{Hold, given_up};
+use std::array;
 
 // Sixteen roots, numbered 0–15. A root in use keeps the number of a cell in the place of the hold that was set in it,
 // and the hold comes back when the root is emptied. It is no `Clone`, so none comes back twice.
@@ -21,6 +22,7 @@ impl Roots {
     }
 
     // Sets a hold in an empty root; else hands it back.
+    #[inline(always)]
     pub fn set(&mut self, r: u8, hold: Hold) -> Result<(), Hold>
         ensures { SetTold self.old.slots self.new.slots r hold result }
     {
@@ -39,6 +41,7 @@ impl Roots {
     }
 
     // Empties a root and gives its hold; none where it is empty or there is no such root.
+    #[inline(always)]
     pub fn empty(&mut self, r: u8) -> Option<Hold>
         ensures given { on result ≡ root_at self.old.slots r }
         ensures emptied { self.new.slots ≡ slice_set self.old.slots r None }
@@ -51,13 +54,15 @@ impl Roots {
     }
 
     // Which roots are in use.
+    #[inline(always)]
     pub fn in_use(&self) -> [bool; 16]
         ensures { result ≡ map is_some self.now.slots }
     {
-        self.slots.map(|slot| slot.is_some())
+        array::from_fn(|r| self.slots[r].is_some())
     }
 
     // The number of the cell that a root names.
+    #[inline(always)]
     pub fn number(&self, r: u8) -> Option<u16>
         ensures { result ≡ root_at self.now.slots r }
     {

@@ -1,7 +1,8 @@
 use Rattle.std.proofs.Common.{false, ◌||◌, get_or, ◌∙◌, arith, rules}
 use borrow.Author.Tests.{tests}
 use Rattle.rule.specs.Check.{either}
-use Rattle.rule.proofs.Flagged.{made, length-either, either_at}
+use Rattle.store.proofs.Arrays.{made}
+use Rattle.rule.proofs.Flagged.{length-either, either_at}
 use Rattle.rule.proofs.flags.either.Goals as goal
 
 pub returns : goal.returns

@@ -2,7 +2,8 @@ use Rattle.std.proofs.Common.{◌/◌, ◌^◌, eqb, rules}
 use borrow.Author.Tests.{tests}
 use Rattle.std.specs.Int.Bits.{bit_and}
 use Rattle.rule.specs.Check.{bits}
-use Rattle.rule.proofs.Flagged.{made, length-bits, bits_at}
+use Rattle.store.proofs.Arrays.{made}
+use Rattle.rule.proofs.Flagged.{length-bits, bits_at}
 use Rattle.rule.proofs.flags.marked.Goals as goal
 
 pub returns : goal.returns

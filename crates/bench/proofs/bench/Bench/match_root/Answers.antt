@@ -1,4 +1,4 @@
-use Rattle.std.proofs.Common.{◌≡◌, ℕ, Some, Option, sym, ap, ◌∙◌, subst, to_z-of_z, w32}
+use Rattle.std.proofs.Common.{◌≡◌, ◌≢◌, ℕ, Some, Option, sym, ap, ◌∙◌, subst, to_z-of_z, w32}
 use Rattle.store.specs.Meaning.{by_hold}
 use Rattle.bench.specs.Handing.{Settable, put_links}
 use Rattle.bench.proofs.Facts.{few_of, held_of}
@@ -9,7 +9,9 @@ pub kind-requires-clause-reached : goal.kind-requires-clause-reached
 kind-requires-clause-reached g c = by_hold (held_of c.args.r c.requires.stood c.cell-c.ensures)
 
 pub returns-then-kind : goal.returns-then-kind
-returns-then-kind g c = other_sent g.S.Store c.args.self.now c.args.r c.args.kind c.args.a c.args.b c.cell-c.result c.requires c.cell-c.ensures (λ q. c.if-kind.true (c.kind.ensures ∙ q))
+returns-then-kind g c =
+    let other : c.kind.result ≢ c.args.kind = c.if-kind.true in
+    other_sent g.S.Store c.args.self.now c.args.r c.args.kind c.args.a c.args.b c.cell-c.result c.requires c.cell-c.ensures (λ q. other (c.kind.ensures ∙ q))
 
 pub value-value-requires-clause-reached : goal.value-value-requires-clause-reached
 value-value-requires-clause-reached g c = by_hold (held_of c.args.r c.requires.stood c.cell-c.ensures)
