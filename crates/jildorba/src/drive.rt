@@ -34,6 +34,7 @@ pub trait Asked {
 }
 
 impl<D: Desk> Asked for D {
+    #[inline(always)]
     fn ask(&mut self, ask: &Ask, out: &mut String) -> Result<(), Misread<'static>> {
         match ask {
             Ask::Call(call) => match self.send(call) {
@@ -102,6 +103,7 @@ impl Clerk {
     }
 
     // Answers line i, unless it opens a part.
+    #[inline(always)]
     fn answer<'a, A: Asked>(
         &mut self,
         line: &'a str,

@@ -37,6 +37,7 @@ struct Fields<'a> {
 }
 
 // What a line says, up to a comment.
+#[inline(always)]
 pub fn read_line<'a>(text: &'a str) -> Result<Line<'a>, Unreadable<'a>> {
     let mut fields = Fields::of(text);
     let Some(command) = fields.words.next() else {
@@ -56,6 +57,7 @@ pub fn read_line<'a>(text: &'a str) -> Result<Line<'a>, Unreadable<'a>> {
 }
 
 impl<'a> Fields<'a> {
+    #[inline(always)]
     fn of(text: &'a str) -> Fields<'a> {
         let (said, _) = text.split_once('#').unwrap_or((text, ""));
         Fields {
@@ -73,6 +75,7 @@ impl<'a> Fields<'a> {
         Ok(Line::Setup { make, cells })
     }
 
+    #[inline(always)]
     fn call(&mut self, command: &'a str) -> Result<Call, Unreadable<'a>> {
         match command {
             "make" => Ok(Call::Make {
@@ -113,15 +116,18 @@ impl<'a> Fields<'a> {
         }
     }
 
+    #[inline(always)]
     fn word(&mut self, field: Field) -> Result<&'a str, Unreadable<'a>> {
         self.words.next().ok_or(Unreadable::Missing(field))
     }
 
+    #[inline(always)]
     fn root(&mut self, field: Field) -> Result<u8, Unreadable<'a>> {
         let word = self.word(field)?;
         root(word).map_err(|why| Unreadable::Unfit(why, field, word))
     }
 
+    #[inline(always)]
     fn number<T: FromStr>(&mut self, field: Field) -> Result<T, Unreadable<'a>>
     where
         T::Err: Drop,
@@ -131,6 +137,7 @@ impl<'a> Fields<'a> {
     }
 
     // No word is left over.
+    #[inline(always)]
     fn end(&mut self) -> Result<(), Unreadable<'a>> {
         let left = self.words.next();
         left.map_or(Ok(()), |word| Err(Unreadable::Extra(word)))
